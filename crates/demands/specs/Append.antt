@@ -1,0 +1,58 @@
+-- The third demand at case A, from its 70 bytes: app(X, Y, [a]) has these two proofs and no other.
+-- Assumes nothing.
+use Prim.Native.Nat.{ℕ}
+use mathlib.Core.Path.{_≡_, refl, ap, sym, _∙_, subst}
+use mathlib.Core.Logic.{_⊎_, inl, inr}
+use mathlib.Core.List.{List, [], _∷_, _++_}
+use Rattle.meaning.specs.Terms.{Term, var, app, Terms, []ₜ, _∷ₜ_}
+use Rattle.meaning.specs.Rules.{Call, Goal, call, cut, Clause, Rules}
+use Rattle.meaning.specs.Reading.{Read, read, parse}
+use Rattle.meaning.specs.Answers.{Answer, output}
+use Rattle.meaning.specs.Moves.{Limits}
+use Rattle.meaning.specs.Call.{Result, end, result}
+use Rattle.demands.specs.Proofs.{Each, IsProof, Uncut}
+use Rattle.demands.specs.Demands.{Says, Listed, Complete, Ends}
+use Rattle.demands.specs.Computes.{computes}
+use Rattle.demands.specs.Cases.{append, first-append, second-append}
+use Rattle.demands.specs.Theorems.{third-demand}
+
+abbrev nil : Term
+nil = app 0 []ₜ
+
+abbrev cons : Term → Term → Term
+cons x y = app 1 (x ∷ₜ y ∷ₜ []ₜ)
+
+abbrev a : Term
+a = app 2 []ₜ
+
+abbrev app3 : Term → Term → Term → Call
+app3 x y z = record { predicate = 0; arguments = x ∷ₜ y ∷ₜ z ∷ₜ []ₜ }
+
+-- app([], V, V). app([H|T], V, [H|W]) if app(T, V, W). Query app(X, Y, [a])
+abbrev rules : Rules
+rules = record {
+  functions = 0 ∷ 2 ∷ 0 ∷ [];
+  predicates = 3 ∷ [];
+  clauses =
+      record { variables = 1; head = app3 nil (var 0) (var 0); body = [] }
+      ∷ record { variables = 4; head = app3 (cons (var 0) (var 1)) (var 2) (cons (var 0) (var 3)); body = call (app3 (var 1) (var 2) (var 3)) ∷ [] }
+      ∷ [];
+  variables = 2;
+  query = call (app3 (var 0) (var 1) (cons a nil)) ∷ [];
+}
+
+-- the file says these rules
+pub append-says : Says append rules
+unfolding computes
+append-says = (2, 70, refl)
+
+append-uncut : Uncut rules
+append-uncut = record { clauses = (tt, (tt, tt)); query = tt }
+
+append-ends : Ends rules 20 2 18 (first-append ++ second-append)
+unfolding computes
+append-ends = record { file = append; limits = record { cells = 10; steps = 2; work = 8 }; budget = 18; wanted = 3; scratch = 1000; room = 45; says = append-says; gives = refl }
+
+-- its answers: the steps 0, and the steps 1 0
+answers : List Answer
+answers = record { values = nil ∷ₜ cons a nil ∷ₜ []ₜ; steps = 0 ∷ [] } ∷ record { values = cons a nil ∷ₜ nil ∷ₜ []ₜ; steps = 1 ∷ 0 ∷ [] } ∷ []

@@ -1,0 +1,17 @@
+-- Taking a choice by its test.
+-- Assumes nothing.
+use mathlib.Core.Path.{_≡_, refl}
+use mathlib.Core.Bool.{Bool, true, false}
+use Rattle.meaning.specs.If.{if_then_else_}
+
+-- what holds of each branch where its test has come out so holds of the choice
+pub if-by {ℓ κ} : {A : Type ℓ} (P : A → Type κ) (b : Bool) {x y : A} → (b ≡ true → P x) → (b ≡ false → P y) → P (if b then x else y)
+unfolding if_then_else_
+if-by P true f g = f refl
+if-by P false f g = g refl
+
+pub if-true {ℓ} : {A : Type ℓ} (b : Bool) (x y : A) → b ≡ true → (if b then x else y) ≡ x
+if-true b x y e = if-by (λ z. z ≡ x) b (λ p. refl) (λ p. cc)
+
+pub if-false {ℓ} : {A : Type ℓ} (b : Bool) (x y : A) → b ≡ false → (if b then x else y) ≡ y
+if-false b x y e = if-by (λ z. z ≡ y) b (λ p. cc) (λ p. refl)

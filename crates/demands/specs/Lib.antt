@@ -1,0 +1,16 @@
+pub mod Computes
+pub mod Cases
+pub mod Proofs
+pub mod Demands
+pub mod IfLaws
+pub mod GoodFiles
+pub mod TermLaws
+pub mod StoreLaws
+pub mod WellLaws
+pub mod RenumberLaws
+pub mod Ways
+pub mod Order
+pub mod Sofar
+pub mod Searches
+pub mod Theorems
+pub mod Append

@@ -1,0 +1,1 @@
+// The theorems over the definitions are in specs/. No code stands on them.

@@ -1,0 +1,11 @@
+pub mod If
+pub mod Terms
+pub mod Kinds
+pub mod Rules
+pub mod Reading
+pub mod Store
+pub mod Answers
+pub mod Moves
+pub mod Call
+pub mod Embedded
+pub mod Outcome
