@@ -2,7 +2,7 @@
 -- Assumes nothing.
 use Prim.Native.Nat.{ℕ}
 use mathlib.Core.Path.{_≡_, refl, ap, sym, _∙_, subst}
-use mathlib.Core.Logic.{_⊎_, inl, inr}
+use mathlib.Core.Logic.{_⊎_, inl, inr, _↔_}
 use mathlib.Core.List.{List, [], _∷_, _++_}
 use Rattle.meaning.specs.Terms.{Term, var, app, Terms, []ₜ, _∷ₜ_}
 use Rattle.meaning.specs.Rules.{Call, Goal, call, cut, Clause, Rules}
@@ -10,11 +10,12 @@ use Rattle.meaning.specs.Reading.{Read, read, parse}
 use Rattle.meaning.specs.Answers.{Answer, output}
 use Rattle.meaning.specs.Moves.{Limits}
 use Rattle.meaning.specs.Call.{Result, end, result}
-use Rattle.demands.specs.Proofs.{Each, IsProof, Uncut}
+use Rattle.demands.specs.Proofs.{Each, Values, Allows, IsProof, Matches, Uncut}
 use Rattle.demands.specs.Demands.{Says, Listed, Complete, Ends}
 use Rattle.demands.specs.Computes.{computes}
 use Rattle.demands.specs.Cases.{append, first-append, second-append}
-use Rattle.demands.specs.Theorems.{third-demand}
+use Rattle.demands.specs.Bytes.{OfRules, bytes-determine}
+use Rattle.demands.specs.Theorems.{third-demand, right-of-rules}
 
 abbrev nil : Term
 nil = app 0 []ₜ
@@ -53,6 +54,41 @@ append-ends : Ends rules 20 2 18 (first-append ++ second-append)
 unfolding computes
 append-ends = record { file = append; limits = record { cells = 10; steps = 2; work = 8 }; budget = 18; wanted = 3; scratch = 1000; room = 45; says = append-says; gives = refl }
 
--- its answers: the steps 0, and the steps 1 0
-answers : List Answer
-answers = record { values = nil ∷ₜ cons a nil ∷ₜ []ₜ; steps = 0 ∷ [] } ∷ record { values = cons a nil ∷ₜ nil ∷ₜ []ₜ; steps = 1 ∷ 0 ∷ [] } ∷ []
+-- its answers: by the steps 0, and by the steps 1 0
+abbrev pub answers : List Answer
+answers =
+    record { values = nil ∷ₜ cons a nil ∷ₜ []ₜ; steps = 0 ∷ [] }
+    ∷ record { values = cons a nil ∷ₜ nil ∷ₜ []ₜ; steps = 1 ∷ 0 ∷ [] }
+    ∷ []
+
+answers-written : output answers ≡ first-append ++ second-append
+unfolding computes
+answers-written = refl
+
+answers-of-rules : Each (OfRules rules) answers
+unfolding computes
+answers-of-rules = (record { size = refl; terms = ((refl, tt), ((refl, ((refl, tt), ((refl, tt), tt))), tt)) }, (record { size = refl; terms = ((refl, ((refl, tt), ((refl, tt), tt))), ((refl, tt), tt)) }, tt))
+
+-- the call lists just these
+append-complete : Complete rules answers (Unit {0})
+append-complete =
+    let (listed, bytes, number, c) = third-demand rules 20 2 18 (first-append ++ second-append) append-uncut append-ends in
+    let same : listed ≡ answers = bytes-determine rules listed answers (right-of-rules rules listed (c .correct .right)) answers-of-rules (sym bytes ∙ sym answers-written) in
+    subst (λ (xs : List Answer). Complete rules xs (Unit {0})) same (record { correct = c .correct; all = λ t. c .all refl; after = c .after })
+
+-- exactly these two proofs
+pub only-two : (ks : List ℕ) → IsProof rules ks ↔ ((ks ≡ 0 ∷ []) ⊎ (ks ≡ 1 ∷ 0 ∷ []))
+only-two ks = ((λ p. named (append-complete .all tt ks p)), are)
+  where
+    named : Listed ks answers → (ks ≡ 0 ∷ []) ⊎ (ks ≡ 1 ∷ 0 ∷ [])
+    named (inl e) = inl (sym e)
+    named (inr (inl e)) = inr (sym e)
+    named (inr (inr n)) = absurd n
+
+    are : (ks ≡ 0 ∷ []) ⊎ (ks ≡ 1 ∷ 0 ∷ []) → IsProof rules ks
+    are (inl e) = subst (IsProof rules) (sym e) (append-complete .correct .right .0 .proof)
+    are (inr e) = subst (IsProof rules) (sym e) (append-complete .correct .right .1 .0 .proof)
+
+-- and the second allows one pair of values for X and Y alone
+pub only-values : (θ : ℕ → Term) → Values rules θ → (Allows rules (1 ∷ 0 ∷ []) θ ↔ Matches rules θ (cons a nil ∷ₜ nil ∷ₜ []ₜ))
+only-values θ o = append-complete .correct .right .1 .0 .values θ o

@@ -10,6 +10,8 @@ pub mod WellLaws
 pub mod RenumberLaws
 pub mod Ways
 pub mod Order
+pub mod Bytes
+pub mod Stops
 pub mod Sofar
 pub mod Searches
 pub mod Theorems

@@ -14,7 +14,7 @@ use Rattle.meaning.specs.If.{if_then_else_}
 use Rattle.meaning.specs.Terms.{Term, var, app, Terms, count, inst, insts, occurs, row}
 use Rattle.meaning.specs.Rules.{Call, Goal, call, cut, Clause, Rules}
 use Rattle.meaning.specs.Store.{Store, empty, bind, value, follow}
-use Rattle.meaning.specs.Answers.{Answer, renumbered, Piece, piece, pieces, output, Fit, fits, stops, fitting}
+use Rattle.meaning.specs.Answers.{Answer, renumbered, pieces, output, Fit, fits, stops, fitting}
 use Rattle.meaning.specs.Moves.{Limits, Open, goal, cut-to, cut-idle, Derivation, Numbered, Choice, choice, Pair, Move, trying, taking, cutting, Done, State, ended, due}
 use Rattle.meaning.specs.Moves.{nothing, spend, list, clauses-of, over, body-goal, query-goal, pairs, with-goals, with-binding, with-step, keep, fail, answer, answered, put-out, answering, take-goal, go-on, matching, binding, compared, take-pair, try-head, move, start, run}
 use Rattle.demands.specs.Proofs.{Each, Some, IsProof, Before, WellFormed, WellClause, NoCut, Uncut}
@@ -25,6 +25,7 @@ use Rattle.demands.specs.StoreLaws.{Sound, Free, Solves, solves-values, 
 use Rattle.demands.specs.WellLaws.{Good, GoodPairs, GoodStore, follow-good, pairs-good, append-good, goods-more, Agree, agree-append, pairs-agree}
 use Rattle.demands.specs.Ways.{Under, todo, GoodAt, Exact, asked, asked-good, asked-exact, with-goal, OfGoal, head-pairs, exact-none, exact-pairs, exact-bind, exact-goals, exact-goal, exact-step, exact-answer, answer-right, step-good, over-good}
 use Rattle.demands.specs.Order.{each-at, some-map, each-drop, some-drop, clauses-known, clauses-ascend, clauses-all, Ascends, InChoice, InChoices, Past, Stacked, StackedFrom, stacked-from, stacked-drop, before-choices, keep-all}
+use Rattle.demands.specs.Stops.{fitting-unfit, unfit-range}
 use Rattle.demands.specs.Sofar.{Sofar, sofar-none, sofar-less, sofar-answer, Fine, sofar-fine}
 
 -- no cut of a clause is among the open goals
@@ -45,14 +46,6 @@ unfolding query-goal
 query-free [] = tt
 query-free (call g ∷ gs) = query-free gs
 query-free (cut ∷ gs) = query-free gs
-
--- the writing of an answer stops with 26 or 25
-fitting-end : (room work size : ℕ) (ps : List Piece) (e : ℕ) → fitting room work size ps ≡ stops e → e ≢ 20
-unfolding fitting
-fitting-end room work size [] e q = let z : _≡_ {A = ℕ} 0 1 = cc in absurd (omega arith)
-fitting-end room work size (piece b nodes ∷ ps) e q =
-    if-by (λ (f : Fit). f ≡ stops e → e ≢ 20) (ltb room (size + length b)) (λ t p k. let m : 26 ≡ e = cc in omega arith)
-    (λ t. if-by (λ (f : Fit). f ≡ stops e → e ≢ 20) (ltb work nodes) (λ v p k. let m : 25 ≡ e = cc in omega arith) (λ v p. fitting-end room work (size + length b) ps e p)) q
 
 -- going on by an untried clause of a goal is going on from that goal
 in-choice-under : (p : List ℕ) (ks : List Numbered) (ls : List ℕ) → Some (λ k. Under (p ++ k .number ∷ []) ls) ks → Under p ls
@@ -159,7 +152,7 @@ module _ (R : Rules) (wf : WellFormed R) where
 
     answering-holds : (n : Derivation) (cs : List Choice) (d : Done) → todo (n .goals) ≡ [] → At [] n cs d → Holds (answering R L wanted room n cs d)
     unfolding answering
-    answering-holds n cs d t a = put-out-holds _ n cs d (λ e q. fitting-end (room - length (output (d .listed))) (L .work) 0 (pieces (answer R L wanted room n)) e q) t a
+    answering-holds n cs d t a = put-out-holds _ n cs d (λ e q z. let r = unfit-range (fitting-unfit (room - length (output (d .listed))) (L .work) 0 (pieces (answer R L wanted room n)) q) in omega arith) t a
 
     -- ---- a goal is taken
     -- a cut has no part in a proof

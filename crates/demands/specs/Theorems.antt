@@ -14,10 +14,15 @@ use Rattle.meaning.specs.Reading.{Read, read, parse}
 use Rattle.meaning.specs.Answers.{Answer, output}
 use Rattle.meaning.specs.Moves.{Limits, Done, run, start}
 use Rattle.meaning.specs.Call.{Result, refusal, end, in-range, needed, ending, run-read, result, output-after, scratch-after}
-use Rattle.demands.specs.Proofs.{Uncut}
-use Rattle.demands.specs.Demands.{Says, Ends, Correct, Complete, ThirdDemand, ThirdDemandWithCut, Leaves, OneOutcome}
+use Rattle.meaning.specs.Terms.{Term, Terms, count, row}
+use Rattle.demands.specs.Proofs.{Each, Wells, Uncut}
+use Rattle.demands.specs.Demands.{Says, Ends, Right, Correct, Complete, ThirdDemand, ThirdDemandWithCut, Leaves, OneOutcome}
 use Rattle.demands.specs.IfLaws.{if-by}
 use Rattle.demands.specs.GoodFiles.{good-files-are-well-formed}
+use Rattle.demands.specs.TermLaws.{count-insts, count-from}
+use Rattle.demands.specs.WellLaws.{Any, wells-of, wells-from}
+use Rattle.demands.specs.Order.{each-map}
+use Rattle.demands.specs.Bytes.{OfRules}
 use Rattle.demands.specs.Sofar.{Fine}
 use Rattle.demands.specs.Searches.{start-holds, run-fine}
 
@@ -81,3 +86,14 @@ one-outcome file L budget wanted scratch out = record {
       let e : r ≡ q = l .result-is ∙ sym (m .result-is) in
       (e, l .scratch-is ∙ ap (λ (x : Result). scratch-after x (needed (length file) L) scratch) e ∙ sym (m .scratch-is), l .output-is ∙ ap (λ (x : Result). output-after x out) e ∙ sym (m .output-is));
 }
+
+-- a right answer has a term for each query variable, over the file's functions: its bytes determine it
+pub right-of-rules : (R : Rules) (listed : List Answer) → Each (Right R) listed → Each (OfRules R) listed
+unfolding row
+right-of-rules R listed r = each-map (Right R) (OfRules R) one listed r
+  where
+    one : (a : Answer) → Right R a → OfRules R a
+    one a t =
+        let (θ, allows) = t .proof in
+        let (τ, v, e) = t .values θ (allows .0) .0 allows in
+        record { size = sym (count-insts τ (a .values)) ∙ ap count (sym e) ∙ count-from 0 (R .variables) θ; terms = wells-of (R .functions) τ (a .values) (subst (Wells (R .functions) Any) e (wells-from (R .functions) Any θ (allows .0) 0 (R .variables))) }
