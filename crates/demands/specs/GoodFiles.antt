@@ -15,7 +15,7 @@ use Rattle.meaning.specs.Kinds.{a-function, a-predicate, a-clause, a-query, lev
 use Rattle.meaning.specs.Rules.{Call, Goal, call, cut, Clause, Rules}
 use Rattle.meaning.specs.Reading.{Read, refused, read, Reader, after, _>>=_, _>>_, give, refuse, need, terms, goals, term-due, goal-due, item-due}
 use Rattle.meaning.specs.Reading.{byte, next, variable, applied, term, arguments, called, goal, clause, query, items, parse}
-use Rattle.demands.specs.IfLaws.{if-by}
+use Rattle.laws.specs.IfLaws.{if-by}
 use Rattle.demands.specs.Proofs.{Each, Well, Wells, calls, WellCall, WellClause, WellFormed}
 use Rattle.demands.specs.Demands.{GoodFilesAreWellFormed}
 

@@ -2,7 +2,6 @@ pub mod Computes
 pub mod Cases
 pub mod Proofs
 pub mod Demands
-pub mod IfLaws
 pub mod GoodFiles
 pub mod TermLaws
 pub mod StoreLaws

@@ -14,7 +14,7 @@ use Rattle.meaning.specs.If.{if_then_else_}
 use Rattle.meaning.specs.Rules.{Call, Clause}
 use Rattle.meaning.specs.Moves.{Numbered, Choice, choice, clauses-of, keep}
 use Rattle.demands.specs.Proofs.{Each, Some, Before}
-use Rattle.demands.specs.IfLaws.{if-by}
+use Rattle.laws.specs.IfLaws.{if-by}
 use Rattle.demands.specs.Ways.{Under}
 
 -- ---- lists

@@ -14,7 +14,7 @@ use Rattle.meaning.specs.Terms.{Term, var, app, Terms, []ₜ, _∷ₜ_, inst, i
 use Rattle.meaning.specs.Rules.{Rules}
 use Rattle.meaning.specs.Answers.{has, appear, appears, index, renumbered}
 use Rattle.demands.specs.Proofs.{Some, Values}
-use Rattle.demands.specs.IfLaws.{if-by}
+use Rattle.laws.specs.IfLaws.{if-by}
 use Rattle.demands.specs.TermLaws.{In, Ins, or-cases, insts-insts, insts-cong}
 
 -- x is one of the variables

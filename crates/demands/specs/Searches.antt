@@ -19,7 +19,7 @@ use Rattle.meaning.specs.Moves.{Limits, Open, goal, cut-to, cut-idle, Derivatio
 use Rattle.meaning.specs.Moves.{nothing, spend, list, clauses-of, over, body-goal, query-goal, pairs, with-goals, with-binding, with-step, keep, fail, answer, answered, put-out, answering, take-goal, go-on, matching, binding, compared, take-pair, try-head, move, start, run}
 use Rattle.demands.specs.Proofs.{Each, Some, IsProof, Before, WellFormed, WellClause, NoCut, Uncut}
 use Rattle.demands.specs.Demands.{Right}
-use Rattle.demands.specs.IfLaws.{if-by}
+use Rattle.laws.specs.IfLaws.{if-by}
 use Rattle.demands.specs.TermLaws.{In, Ins, occurs-true, occurs-false, no-loop}
 use Rattle.demands.specs.StoreLaws.{Sound, Free, Solves, solves-values, solves-follow, value-free, follow-free}
 use Rattle.demands.specs.WellLaws.{Good, GoodPairs, GoodStore, follow-good, pairs-good, append-good, goods-more, Agree, agree-append, pairs-agree}

@@ -10,7 +10,7 @@ use native.Mathlib.Omega.{arith}
 use Rattle.meaning.specs.If.{if_then_else_}
 use Rattle.meaning.specs.Terms.{Term, var, app, inst, insts}
 use Rattle.meaning.specs.Store.{Store, empty, bind, only, value, onward, follow}
-use Rattle.demands.specs.IfLaws.{if-by, if-true, if-false}
+use Rattle.laws.specs.IfLaws.{if-by, if-true, if-false}
 use Rattle.demands.specs.TermLaws.{In, inst-inst, inst-var, inst-cong, inst-ext}
 
 -- the cell is not bound

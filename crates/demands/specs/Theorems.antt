@@ -17,7 +17,7 @@ use Rattle.meaning.specs.Call.{Result, refusal, end, in-range, needed, ending, 
 use Rattle.meaning.specs.Terms.{Term, Terms, count, row}
 use Rattle.demands.specs.Proofs.{Each, Wells, Uncut}
 use Rattle.demands.specs.Demands.{Says, Ends, Right, Correct, Complete, ThirdDemand, ThirdDemandWithCut, Leaves, OneOutcome}
-use Rattle.demands.specs.IfLaws.{if-by}
+use Rattle.laws.specs.IfLaws.{if-by}
 use Rattle.demands.specs.GoodFiles.{good-files-are-well-formed}
 use Rattle.demands.specs.TermLaws.{count-insts, count-from}
 use Rattle.demands.specs.WellLaws.{Any, wells-of, wells-from}

@@ -15,7 +15,7 @@ use Rattle.meaning.specs.Terms.{Term, var, app, Terms, []ₜ, _∷ₜ_, count, 
 use Rattle.meaning.specs.Store.{Store, empty, bind, only, value, onward, follow}
 use Rattle.meaning.specs.Moves.{Pair, pairs}
 use Rattle.demands.specs.Proofs.{Well, Wells}
-use Rattle.demands.specs.IfLaws.{if-by, if-true, if-false}
+use Rattle.laws.specs.IfLaws.{if-by, if-true, if-false}
 use Rattle.demands.specs.TermLaws.{In, Ins, inst-cong, insts-cong, count-insts}
 use Rattle.demands.specs.StoreLaws.{Solves}
 

@@ -1,4 +1,12 @@
-// What a call answers. The definitions of document 01 are in specs/; the code that meets them is in other crates.
+// The numbers and answers that code and definitions share. The definitions of document 01 are in specs/; the code that meets them is in
+// other crates.
+
+// A clause number, a cell number and a file place are three kinds of number.
+pub struct ClauseNumber(pub u32);
+
+pub struct CellNumber(pub u32);
+
+pub struct Place(pub usize);
 
 // How a run ended.
 pub enum End {
@@ -10,9 +18,6 @@ pub enum End {
     Work,
     Output,
 }
-
-// A place of the rule file, from 0.
-pub struct Place(pub u32);
 
 // What a run comes to: answers and bytes written, units spent.
 pub struct Totals {

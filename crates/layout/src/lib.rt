@@ -1,0 +1,1 @@
+// How rules stand in a file, and how scratch is laid out for a run.
