@@ -1,0 +1,216 @@
+// Matching a head: the list of pairs in scratch, whose front is the pair written last, and what taking that pair does.
+use cells::Found;
+use cells::Held;
+use cells::Layout;
+use cells::bind;
+use cells::follow;
+use cells::inside;
+use meaning::CellNumber;
+use meaning::Place;
+use words::add;
+use words::byte_at;
+use words::get;
+use words::on;
+use words::put;
+ghost use mathlib.Core.Path.{_≡_};
+ghost use Prim.Native.Nat.{_+_, _*_, _-_};
+ghost use Rattle.matching.specs.Matching.{put-four, held-at, place-after, word-of-place, pushed, past-kind, BindChecked, Functions, front-of, Compares, TakesPair};
+
+// Sets four words in a row.
+pub fn put_four(w: &mut [u32], at: usize, a: u32, b: u32, c: u32, d: u32)
+    ensures { λ _. ⌜ now (w .exit) ≡ put-four (now (w .entry)) at a b c d ⌝ }
+{
+    put(w, at, a);
+    put(w, on(at, 1), b);
+    put(w, on(at, 2), c);
+    put(w, on(at, 3), d);
+}
+
+// A place as a word.
+pub fn place_word(p: Place) -> u32
+    ensures { λ r. ⌜ r ≡ word-of-place p ⌝ }
+{
+    (p.0 % 4294967296) as u32
+}
+
+// The term that two words hold.
+pub fn read_held(w: &[u32], at: usize) -> Held
+    ensures { λ r. ⌜ r ≡ held-at (now (w .entry)) at ⌝ }
+{
+    Held {
+        place: Place(get(w, at) as usize),
+        base: CellNumber(get(w, on(at, 1))),
+    }
+}
+
+// The place after the term or goal that stands at a place; for a clause, that of its body.
+pub fn after(w: &[u32], p: Place) -> Place
+    ensures { λ r. ⌜ r ≡ place-after (now (w .entry)) p ⌝ }
+{
+    Place(get(w, on(64, p.0)) as usize)
+}
+
+// Writes the pair of two terms.
+fn put_pair(w: &mut [u32], lay: Layout, i: u32, p: Place, a: u32, q: Place, b: u32)
+    ensures { λ _. ⌜ now (w .exit) ≡ put-four (now (w .entry)) (lay .work + 4 * i) (word-of-place p) a (word-of-place q) b ⌝ }
+{
+    put_four(
+        w,
+        (lay.work as usize) + 4 * (i as usize),
+        place_word(p),
+        a,
+        place_word(q),
+        b,
+    );
+}
+
+// The pairs of so many arguments go in front of the list, the first of them foremost.
+pub fn push_pairs(w: &mut [u32], lay: Layout, work: u32, n: u32, g: Held, h: Held)
+    ensures { λ _. ⌜ now (w .exit) ≡ pushed n work lay g h (now (w .entry)) ⌝ }
+{
+    let mut left = n;
+    let mut p = g.place;
+    let mut q = h.place;
+    let a = g.base;
+    let b = h.base;
+    while 0 < left {
+        left -= 1;
+        put_pair(w, lay, add(work, left), p, a.0, q, b.0);
+        p = after(w, p);
+        q = after(w, q);
+    }
+}
+
+// What the front pair comes to: the lengths of the trail and of the list then, a mismatch, or a list over W.
+pub enum Pairing {
+    Same(u32, u32),
+    Differ,
+    Over,
+}
+
+// A free variable is bound, unless it stands inside its new value.
+fn bind_checked(
+    file: &[u8],
+    w: &mut [u32],
+    lay: Layout,
+    stamp: u32,
+    trail: u32,
+    work: u32,
+    x: CellNumber,
+    h: Held,
+) -> Pairing
+    ensures { λ r. ⌜ BindChecked (now (file .entry)) lay stamp trail work x h (now (w .entry)) r (now (w .exit)) ⌝ }
+{
+    if inside(file, w, lay, stamp, trail, x, h) {
+        return Pairing::Differ;
+    }
+    bind(w, lay, trail, x, h);
+    Pairing::Same(add(trail, 1), work)
+}
+
+// The first argument of an applied function, or of a goal.
+pub fn behind(h: Held, k: usize) -> Held
+    ensures { λ r. ⌜ r ≡ past-kind h k ⌝ }
+{
+    let p = h.place;
+    let b = h.base;
+    Held {
+        place: Place(on(p.0, k)),
+        base: b,
+    }
+}
+
+// Two functions applied: they must be equal, and the argument pairs go in front.
+fn functions(
+    file: &[u8],
+    w: &mut [u32],
+    lay: Layout,
+    limit: u32,
+    trail: u32,
+    work: u32,
+    f: u32,
+    g: u32,
+    s: Held,
+    t: Held,
+) -> Pairing
+    ensures { λ r. ⌜ Functions (now (file .entry)) lay limit trail work f g s t (now (w .entry)) r (now (w .exit)) ⌝ }
+{
+    if f != g {
+        return Pairing::Differ;
+    }
+    let n = byte_at(file, 2 * (f as usize) + 1);
+    let longer = add(work, n);
+    if limit < longer {
+        return Pairing::Over;
+    }
+    push_pairs(w, lay, work, n, behind(s, 3), behind(t, 3));
+    Pairing::Same(trail, longer)
+}
+
+// Goal side and head side of a pair, both followed.
+pub struct Front {
+    pub goal: Found,
+    pub head: Found,
+}
+
+fn read_front(file: &[u8], w: &[u32], lay: Layout, trail: u32, i: u32) -> Front
+    ensures { λ r. ⌜ r ≡ front-of (now (file .entry)) (now (w .entry)) lay trail i ⌝ }
+{
+    let at = (lay.work as usize) + 4 * (i as usize);
+    let g = follow(file, w, lay, trail, read_held(w, at));
+    let h = follow(file, w, lay, trail, read_held(w, at + 2));
+    Front { goal: g, head: h }
+}
+
+// What the two sides come to, with the list behind them.
+fn compare(
+    file: &[u8],
+    w: &mut [u32],
+    lay: Layout,
+    limit: u32,
+    stamp: u32,
+    trail: u32,
+    work: u32,
+    g: Found,
+    h: Found,
+) -> Pairing
+    ensures { λ r. ⌜ Compares (now (file .entry)) lay limit stamp trail work g h (now (w .entry)) r (now (w .exit)) ⌝ }
+{
+    match h {
+        Found::Unbound(y, _) => match g {
+            Found::Unbound(x, s) => {
+                if x.0 == y.0 {
+                    return Pairing::Same(trail, work);
+                }
+                bind_checked(file, w, lay, stamp, trail, work, y, s)
+            }
+            Found::Function(_, s) => bind_checked(file, w, lay, stamp, trail, work, y, s),
+        },
+        Found::Function(e, t) => match g {
+            Found::Unbound(x, _) => bind_checked(file, w, lay, stamp, trail, work, x, t),
+            Found::Function(f, s) => functions(file, w, lay, limit, trail, work, f, e, s, t),
+        },
+    }
+}
+
+// The front pair is taken; work counts the list with it.
+pub fn take_pair(
+    file: &[u8],
+    w: &mut [u32],
+    lay: Layout,
+    limit: u32,
+    stamp: u32,
+    trail: u32,
+    work: u32,
+) -> Pairing
+    ensures { λ r. ⌜ TakesPair (now (file .entry)) lay limit stamp trail work (now (w .entry)) r (now (w .exit)) ⌝ }
+{
+    if work == 0 {
+        return Pairing::Differ;
+    }
+    let rest = work - 1;
+    let front = read_front(file, w, lay, trail, rest);
+    let g = front.goal;
+    let h = front.head;
+    compare(file, w, lay, limit, stamp, trail, rest, g, h)
+}
