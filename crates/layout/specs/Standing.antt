@@ -10,7 +10,7 @@ use Rattle.meaning.specs.Terms.{Term, var, app, Terms, []ₜ, _∷ₜ_}
 use Rattle.meaning.specs.Kinds.{a-clause, a-variable, an-application, a-goal, a-cut, a-query}
 use Rattle.meaning.specs.Rules.{Call, Goal, call, cut, Clause, Rules}
 use Rattle.meaning.specs.Reading.{byte, two-bytes}
-use Rattle.layout.specs.Lengths.{term-length, terms-length, goal-length, head-length, clause-length, clause-place, query-place}
+use Rattle.layout.specs.Lengths.{term-length, terms-length, goal-length, goals-length, head-length, clause-length, clause-place, query-place}
 
 module _ (file : List ℕ) where
   -- the term stands at the place p
@@ -38,6 +38,7 @@ module _ (file : List ℕ) where
     pub kind : byte file p ≡ a-clause
     pub predicate : two-bytes file (p + 1) ≡ c .head .predicate
     pub variables : byte file (p + 3) ≡ c .variables
+    pub goals : byte file (p + 4) ≡ length (c .body)
     pub head : StandsTerms (p + 5) (c .head .arguments)
     pub body : StandsGoals (p + head-length c) (c .body)
     pub ends : p + clause-length c ≤ length file
@@ -49,5 +50,6 @@ module _ (file : List ℕ) where
     pub clauses : (k : ℕ) (c : Clause) → getElem? (R .clauses) k ≡ some c → StandsClause (clause-place R k) c
     pub query-kind : byte file (query-place R) ≡ a-query
     pub query-variables : byte file (query-place R + 1) ≡ R .variables
+    pub query-goals : byte file (query-place R + 2) ≡ length (R .query)
     pub query : StandsGoals (query-place R + 3) (R .query)
-    pub ends : query-place R + 3 ≤ length file
+    pub ends : query-place R + 3 + goals-length (R .query) < length file

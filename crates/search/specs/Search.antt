@@ -12,7 +12,7 @@ use Rattle.meaning.specs.declared.Place.{Place}
 use Rattle.meaning.specs.declared.CellNumber.{CellNumber}
 use Rattle.meaning.specs.declared.ClauseNumber.{ClauseNumber}
 use Rattle.meaning.specs.declared.End.{End}
-use Rattle.meaning.specs.declared.End.the-variants.{NoMore, Cells, Steps, Work}
+use Rattle.meaning.specs.declared.End.the-variants.{NoMore, Wanted, Cells, Steps, Work}
 use Rattle.words.specs.Words.{plus, ahead}
 use Rattle.cells.specs.Cells.{undone, freed}
 use Rattle.cells.specs.declared.Held.{Held}
@@ -24,6 +24,8 @@ use Rattle.search.specs.declared.Limits.{Limits}
 use Rattle.search.specs.declared.Given.{Given}
 use Rattle.search.specs.declared.Next.{Next}
 use Rattle.search.specs.declared.Rest.{Rest}
+use Rattle.search.specs.declared.Room.{Room}
+use Rattle.search.specs.declared.Room.the-variants.{Cells as Room-cells, Steps as Room-steps, Fits}
 use Rattle.search.specs.declared.Regs.{Regs}
 use Rattle.search.specs.declared.Trial.{Trial}
 use Rattle.search.specs.declared.Due.{Due}
@@ -67,6 +69,118 @@ retried w lay m trail c steps prior k =
 pub data Backs (lay : Layout) (m : Regs) : ℕ → ℕ → List ℕ → Due → List ℕ → Type 0 where
   no-choice : {trail c : ℕ} {w : List ℕ} → c ≤ 0 → Backs lay m trail c w (Over·due NoMore (record { cells = m .cells; trail = trail; steps = m .steps; choice = 0; work = m .work; next = m .next; units = m .units })) w
   retries : {trail c : ℕ} {w v : List ℕ} → 0 < c → v ≡ undone trail (step-word w lay c 6) lay w → 0 < rest-word v lay c .clause
-    → Backs lay m trail c w (retried v lay m (step-word w lay c 6) c (c - 1) (rest-word v lay c .prior) (rest-word v lay c .clause - 1)) v
+      → Backs lay m trail c w (retried v lay m (step-word w lay c 6) c (c - 1) (rest-word v lay c .prior) (rest-word v lay c .clause - 1)) v
   pops : {trail c : ℕ} {w v u : List ℕ} {d : Due} → 0 < c → v ≡ undone trail (step-word w lay c 6) lay w → rest-word v lay c .clause ≤ 0
-    → Backs lay m (step-word w lay c 6) (rest-word v lay c .prior) v d u → Backs lay m trail c w d u
+      → Backs lay m (step-word w lay c 6) (rest-word v lay c .prior) v d u → Backs lay m trail c w d u
+
+-- a goal with the clause k to try, and the goals behind it
+unfoldable pub trial-of : List ℕ → List ℕ → Layout → Next → ℕ → Trial
+trial-of file w lay n k = record {
+  clause = record { 0 = k };
+  goal = n .place;
+  caller = record { 0 = step-word w lay (n .step) 5 };
+  next = settled-next file w lay (record { place = place-after w (n .place); step = n .step });
+}
+
+-- the predicate goal at n is called: it has no clause, or its first one is to be tried
+pub data Calls (file : List ℕ) (lay : Layout) (m : Regs) (n : Next) (w : List ℕ) : Due → List ℕ → Type 0 where
+  no-clause : {d : Due} {v : List ℕ} → getD w (lay .firsts + two-bytes file (n .place .0 + 1)) 0 ≡ 0 → Backs lay m (m .trail) (m .choice) w d v → Calls file lay m n w d v
+  first-clause : {k : ℕ} → getD w (lay .firsts + two-bytes file (n .place .0 + 1)) 0 ≡ suc k → Calls file lay m n w (Try (trial-of file w lay n k) m) w
+
+-- the first open goal is taken
+pub data GoesOn (file : List ℕ) (lay : Layout) (m : Regs) (w : List ℕ) : Due → List ℕ → Type 0 where
+  a-cut : byte file (m .next .place .0) ≡ 7 → GoesOn file lay m w (Cut m) w
+  no-goal : (byte file (m .next .place .0) ≡ 7 → ⊥) → (byte file (m .next .place .0) ≡ 6 → ⊥) → GoesOn file lay m w (Answer m) w
+  a-goal : {d : Due} {v : List ℕ} → byte file (m .next .place .0) ≡ 6 → Calls file lay m (m .next) w d v → GoesOn file lay m w d v
+
+pub data MatchesOn (file : List ℕ) (lay : Layout) (m : Regs) (w : List ℕ) : Due → List ℕ → Type 0 where
+  matched : {d : Due} {v : List ℕ} → m .work ≡ 0 → GoesOn file lay m w d v → MatchesOn file lay m w d v
+  more : (m .work ≡ 0 → ⊥) → MatchesOn file lay m w (Pair m) w
+
+-- the words of a step: clause, goal, the cells of its variables, the goals behind it (place, step), cells, bindings and choice before it
+unfoldable pub step-put : Layout → Trial → Regs → List ℕ → List ℕ
+step-put lay t m w =
+    put-four
+    (put-four w (lay .steps + 8 * m .steps) (t .clause .0) (word-of-place (t .goal)) (t .caller .0) (word-of-place (t .next .place)))
+    (lay .steps + 8 * m .steps + 4) (t .next .step) (m .cells) (m .trail) (m .choice)
+
+unfoldable pub room-of : List ℕ → List ℕ → Given → ClauseNumber → Regs → Room
+room-of file w g k m =
+    if ltb (g .limits .cells) (m .cells + byte file (clause-place-word w (g .lay) k .0 + 3)) then Room-cells else
+    if ltb (g .limits .steps) (m .steps + 1) then Room-steps else
+    Fits (clause-place-word w (g .lay) k) (byte file (clause-place-word w (g .lay) k .0 + 3))
+
+unfoldable pub arity-at : List ℕ → ℕ → Place → ℕ
+arity-at file functions goal = byte file (2 * functions + 2 * two-bytes file (goal .0 + 1) + 1)
+
+unfoldable pub paired : Layout → ℕ → Trial → Place → ℕ → List ℕ → List ℕ
+paired lay n t p base w = pushed n 0 lay (past-kind (record { place = t .goal; base = t .caller }) 3) (past-kind (record { place = p; base = record { 0 = base } }) 5) w
+
+unfoldable pub entered-regs : List ℕ → List ℕ → Layout → Regs → Place → ℕ → ℕ → Regs
+entered-regs file w lay m p variables pairs = record {
+  cells = plus (m .cells) variables;
+  trail = m .trail;
+  steps = plus (m .steps) 1;
+  choice = plus (m .steps) 1;
+  work = pairs;
+  next = settled-next file w lay (record { place = place-after w p; step = plus (m .steps) 1 });
+  units = m .units;
+}
+
+-- the words once the clause at p has been entered
+unfoldable pub entered-words : List ℕ → Given → Trial → Regs → Place → ℕ → List ℕ → List ℕ
+entered-words file g t m p variables w =
+    paired (g .lay) (arity-at file (g .functions) (t .goal)) t p (m .cells) (freed variables (m .cells) (g .lay) (step-put (g .lay) t m w))
+
+pub data Enters (file : List ℕ) (g : Given) (t : Trial) (m : Regs) (p : Place) (variables : ℕ) (w : List ℕ) : Regs → List ℕ → Type 0 where
+  enters : Enters file g t m p variables w
+      (entered-regs file (entered-words file g t m p variables w) (g .lay) m p variables (arity-at file (g .functions) (t .goal)))
+      (entered-words file g t m p variables w)
+
+pub data TriesHead (file : List ℕ) (g : Given) (t : Trial) (m : Regs) (w : List ℕ) : Due → List ℕ → Type 0 where
+  over-cells : room-of file w g (t .clause) m ≡ Room-cells → TriesHead file g t m w (Over·due Cells m) w
+  over-steps : room-of file w g (t .clause) m ≡ Room-steps → TriesHead file g t m w (Over·due Steps m) w
+  tries : {p : Place} {variables : ℕ} {n : Regs} {d : Due} {v u : List ℕ} → room-of file w g (t .clause) m ≡ Fits p variables → Enters file g t m p variables w n v → MatchesOn file (g .lay) n v d u → TriesHead file g t m w d u
+
+pub data MovesPair (file : List ℕ) (g : Given) (m : Regs) (w : List ℕ) : Due → List ℕ → Type 0 where
+  same : {trail work : ℕ} {d : Due} {v u : List ℕ} → TakesPair file (g .lay) (g .limits .work) (m .units) (m .trail) (m .work) w (Same trail work) v
+      → MatchesOn file (g .lay) (record { cells = m .cells; trail = trail; steps = m .steps; choice = m .choice; work = work; next = m .next; units = m .units }) v d u → MovesPair file g m w d u
+  differ : {d : Due} {v u : List ℕ} → TakesPair file (g .lay) (g .limits .work) (m .units) (m .trail) (m .work) w Differ v → Backs (g .lay) m (m .trail) (m .choice) v d u → MovesPair file g m w d u
+  over-work : {v : List ℕ} → TakesPair file (g .lay) (g .limits .work) (m .units) (m .trail) (m .work) w Over v → MovesPair file g m w (Over·due Work m) v
+
+unfoldable pub kept-of : List ℕ → Layout → ℕ → ℕ → ℕ
+kept-of w lay choice zero = choice
+kept-of w lay choice (suc i) = step-word w lay (suc i) 7
+
+-- where the run is behind a cut
+unfoldable pub cut-regs : List ℕ → List ℕ → Layout → Regs → Regs
+cut-regs file w lay m = record {
+  cells = m .cells;
+  trail = m .trail;
+  steps = m .steps;
+  choice = kept-of w lay (m .choice) (m .next .step);
+  work = m .work;
+  next = settled-next file w lay (record { place = record { 0 = ahead (m .next .place .0) 1 }; step = m .next .step });
+  units = m .units;
+}
+
+pub data MovesCut (file : List ℕ) (lay : Layout) (m : Regs) (w : List ℕ) : Due → List ℕ → Type 0 where
+  cuts : {d : Due} {v : List ℕ} → GoesOn file lay (cut-regs file w lay m) w d v → MovesCut file lay m w d v
+
+-- before the first unit
+unfoldable pub start-regs : List ℕ → Given → Regs
+start-regs file g = record {
+  cells = byte file (g .query .0 + 1);
+  trail = 0;
+  steps = 0;
+  choice = 0;
+  work = 0;
+  next = record { place = record { 0 = ahead (g .query .0) 3 }; step = 0 };
+  units = 0;
+}
+
+pub data Starts (file : List ℕ) (g : Given) (wanted : ℕ) (w : List ℕ) : Due → List ℕ → Type 0 where
+  none-wanted : wanted ≡ 0 → Starts file g wanted w (Over·due Wanted (start-regs file g)) w
+  few-cells : (wanted ≡ 0 → ⊥) → g .limits .cells < byte file (g .query .0 + 1) → Starts file g wanted w (Over·due Cells (start-regs file g)) w
+  starts : {d : Due} {v : List ℕ} → (wanted ≡ 0 → ⊥) → byte file (g .query .0 + 1) ≤ g .limits .cells
+      → GoesOn file (g .lay) (start-regs file g) (freed (byte file (g .query .0 + 1)) 0 (g .lay) w) d v → Starts file g wanted w d v

@@ -1,10 +1,27 @@
 // The search: steps, choices, goals and the moves. What a move leads to is the next that is due.
-use cells::{clear, undo, Held, Layout};
-use matching::{after, behind, place_word, push_pairs, put_four, take_pair, Pairing};
-use meaning::{CellNumber, ClauseNumber, End, Place};
-use words::{add, byte_after, byte_at, get, number_after, on};
+use cells::Held;
+use cells::Layout;
+use cells::clear;
+use cells::undo;
+use matching::Pairing;
+use matching::after;
+use matching::behind;
+use matching::place_word;
+use matching::push_pairs;
+use matching::put_four;
+use matching::take_pair;
+use meaning::CellNumber;
+use meaning::ClauseNumber;
+use meaning::End;
+use meaning::Place;
+use words::add;
+use words::byte_after;
+use words::byte_at;
+use words::get;
+use words::number_after;
+use words::on;
 ghost use mathlib.Core.Path.{_≡_};
-ghost use Rattle.search.specs.Search.{step-word, settled-next, clause-place-word, clause-next-word, below-of, step-next, rest-word, retried, Backs};
+ghost use Rattle.search.specs.Search.{step-word, settled-next, clause-place-word, clause-next-word, below-of, step-next, rest-word, retried, Backs, trial-of, GoesOn, Calls, MatchesOn, step-put, room-of, arity-at, paired, entered-regs, Enters, TriesHead, MovesPair, kept-of, MovesCut, Starts};
 
 pub struct Limits {
     pub cells: u32,
@@ -172,4 +189,252 @@ pub fn back(w: &mut [u32], lay: Layout, m: Regs) -> Due
             ..m
         },
     )
+}
+
+// A goal with the first of its clauses, and the goals behind it.
+fn first_trial(file: &[u8], w: &[u32], lay: Layout, n: Next, k: u32) -> Trial
+    ensures { λ r. ⌜ r ≡ trial-of (now (file .entry)) (now (w .entry)) lay n k ⌝ }
+{
+    let p = n.place;
+    let rest = Next {
+        place: after(w, p),
+        step: n.step,
+    };
+    let caller = CellNumber(read_step(w, lay, n.step, 5));
+    let next = settled(file, w, lay, rest);
+    Trial {
+        clause: ClauseNumber(k),
+        goal: p,
+        caller,
+        next,
+    }
+}
+
+// The first open goal is taken.
+pub fn go_on(file: &[u8], w: &mut [u32], lay: Layout, m: Regs) -> Due
+    ensures { λ r. ⌜ GoesOn (now (file .entry)) lay m (now (w .entry)) r (now (w .exit)) ⌝ }
+{
+    let n = m.next;
+    let p = n.place;
+    let kind = byte_at(file, p.0);
+    if kind == 7 {
+        return Due::Cut(m);
+    }
+    if kind != 6 {
+        return Due::Answer(m);
+    }
+    call(file, w, lay, m, n)
+}
+
+// A predicate goal is called.
+fn call(file: &[u8], w: &mut [u32], lay: Layout, m: Regs, n: Next) -> Due
+    ensures { λ r. ⌜ Calls (now (file .entry)) lay m n (now (w .entry)) r (now (w .exit)) ⌝ }
+{
+    let p = n.place;
+    let v = get(
+        w,
+        (lay.firsts as usize) + (number_after(file, p.0) as usize),
+    );
+    if v == 0 {
+        return back(w, lay, m);
+    }
+    let t = first_trial(file, w, lay, n, v - 1);
+    Due::Try(t, m)
+}
+
+// The pairs are matched; none is left: the head matched.
+fn match_on(file: &[u8], w: &mut [u32], lay: Layout, m: Regs) -> Due
+    ensures { λ r. ⌜ MatchesOn (now (file .entry)) lay m (now (w .entry)) r (now (w .exit)) ⌝ }
+{
+    if m.work == 0 {
+        return go_on(file, w, lay, m);
+    }
+    Due::Pair(m)
+}
+
+// The record of a step: its clause, the goal, the goals behind it, and how far the run was.
+fn put_step(w: &mut [u32], lay: Layout, t: Trial, m: Regs)
+    ensures { λ _. ⌜ now (w .exit) ≡ step-put lay t m (now (w .entry)) ⌝ }
+{
+    let at = (lay.steps as usize) + 8 * (m.steps as usize);
+    let n = t.next;
+    let c = t.clause;
+    let b = t.caller;
+    let g = t.goal;
+    let p = n.place;
+    put_four(w, at, c.0, place_word(g), b.0, place_word(p));
+    put_four(w, at + 4, n.step, m.cells, m.trail, m.choice);
+}
+
+// Whether a trial has room, and where its clause stands.
+enum Room {
+    Cells,
+    Steps,
+    Fits(Place, u32),
+}
+
+fn room_for(file: &[u8], w: &[u32], g: Given, k: ClauseNumber, m: Regs) -> Room
+    ensures { λ r. ⌜ r ≡ room-of (now (file .entry)) (now (w .entry)) g k m ⌝ }
+{
+    let lay = g.lay;
+    let limits = g.limits;
+    let p = clause_place(w, lay, k);
+    let variables = byte_after(file, p.0, 3);
+    if (limits.cells as u64) < (m.cells as u64) + (variables as u64) {
+        return Room::Cells;
+    }
+    if (limits.steps as u64) < (m.steps as u64) + 1 {
+        return Room::Steps;
+    }
+    Room::Fits(p, variables)
+}
+
+// How many arguments the goal has.
+fn arity_of(file: &[u8], functions: u32, goal: Place) -> u32
+    ensures { λ r. ⌜ r ≡ arity-at (now (file .entry)) functions goal ⌝ }
+{
+    let q = number_after(file, goal.0);
+    byte_at(file, 2 * (functions as usize) + 2 * (q as usize) + 1)
+}
+
+// The pairs of the goal's arguments and the head's.
+fn pair_up(w: &mut [u32], lay: Layout, n: u32, t: Trial, p: Place, base: u32)
+    ensures { λ _. ⌜ now (w .exit) ≡ paired lay n t p base (now (w .entry)) ⌝ }
+{
+    let goal = t.goal;
+    let caller = t.caller;
+    let s = Held {
+        place: goal,
+        base: caller,
+    };
+    let h = Held {
+        place: p,
+        base: CellNumber(base),
+    };
+    push_pairs(w, lay, 0, n, behind(s, 3), behind(h, 5));
+}
+
+// Where the run is once the clause at p has been entered.
+fn entered(
+    file: &[u8],
+    w: &[u32],
+    lay: Layout,
+    m: Regs,
+    p: Place,
+    variables: u32,
+    pairs: u32,
+) -> Regs
+    ensures { λ r. ⌜ r ≡ entered-regs (now (file .entry)) (now (w .entry)) lay m p variables pairs ⌝ }
+{
+    let step = add(m.steps, 1);
+    let body = Next {
+        place: after(w, p),
+        step,
+    };
+    let next = settled(file, w, lay, body);
+    Regs {
+        cells: add(m.cells, variables),
+        steps: step,
+        choice: step,
+        work: pairs,
+        next,
+        ..m
+    }
+}
+
+// The clause at p is entered: one step more, its fresh cells, its pairs.
+fn enter(file: &[u8], w: &mut [u32], g: Given, t: Trial, m: Regs, p: Place, variables: u32) -> Regs
+    ensures { λ r. ⌜ Enters (now (file .entry)) g t m p variables (now (w .entry)) r (now (w .exit)) ⌝ }
+{
+    let lay = g.lay;
+    let goal = t.goal;
+    put_step(w, lay, t, m);
+    clear(w, lay, m.cells, variables);
+    let n = arity_of(file, g.functions, goal);
+    pair_up(w, lay, n, t, p, m.cells);
+    entered(file, w, lay, m, p, variables, n)
+}
+
+// A head is tried, its unit being spent.
+pub fn try_head(file: &[u8], w: &mut [u32], g: Given, t: Trial, m: Regs) -> Due
+    ensures { λ r. ⌜ TriesHead (now (file .entry)) g t m (now (w .entry)) r (now (w .exit)) ⌝ }
+{
+    let lay = g.lay;
+    let k = t.clause;
+    match room_for(file, w, g, k, m) {
+        Room::Cells => Due::Over(End::Cells, m),
+        Room::Steps => Due::Over(End::Steps, m),
+        Room::Fits(p, variables) => {
+            let n = enter(file, w, g, t, m, p, variables);
+            match_on(file, w, lay, n)
+        }
+    }
+}
+
+// The front pair is taken, its unit being spent.
+pub fn move_pair(file: &[u8], w: &mut [u32], g: Given, m: Regs) -> Due
+    ensures { λ r. ⌜ MovesPair (now (file .entry)) g m (now (w .entry)) r (now (w .exit)) ⌝ }
+{
+    let lay = g.lay;
+    let limits = g.limits;
+    match take_pair(file, w, lay, limits.work, m.units, m.trail, m.work) {
+        Pairing::Same(trail, work) => match_on(file, w, lay, Regs { trail, work, ..m }),
+        Pairing::Differ => back(w, lay, m),
+        Pairing::Over => Due::Over(End::Work, m),
+    }
+}
+
+// What a cut leaves: the choices before its own goal; one of the query leaves all.
+fn kept(w: &[u32], lay: Layout, choice: u32, step: u32) -> u32
+    ensures { λ r. ⌜ r ≡ kept-of (now (w .entry)) lay choice step ⌝ }
+{
+    if step == 0 {
+        return choice;
+    }
+    read_step(w, lay, step, 7)
+}
+
+// A cut, its unit being spent.
+pub fn move_cut(file: &[u8], w: &mut [u32], lay: Layout, m: Regs) -> Due
+    ensures { λ r. ⌜ MovesCut (now (file .entry)) lay m (now (w .entry)) r (now (w .exit)) ⌝ }
+{
+    let n = m.next;
+    let p = n.place;
+    let rest = Next {
+        place: Place(on(p.0, 1)),
+        step: n.step,
+    };
+    let choice = kept(w, lay, m.choice, n.step);
+    let next = settled(file, w, lay, rest);
+    go_on(file, w, lay, Regs { choice, next, ..m })
+}
+
+// Before the first unit: the query's variables take their cells, and the first goal is taken.
+pub fn start(file: &[u8], w: &mut [u32], g: Given, wanted: u32) -> Due
+    ensures { λ r. ⌜ Starts (now (file .entry)) g wanted (now (w .entry)) r (now (w .exit)) ⌝ }
+{
+    let q = g.query;
+    let lay = g.lay;
+    let limits = g.limits;
+    let variables = byte_after(file, q.0, 1);
+    let m = Regs {
+        cells: variables,
+        trail: 0,
+        steps: 0,
+        choice: 0,
+        work: 0,
+        next: Next {
+            place: Place(on(q.0, 3)),
+            step: 0,
+        },
+        units: 0,
+    };
+    if wanted == 0 {
+        return Due::Over(End::Wanted, m);
+    }
+    if limits.cells < variables {
+        return Due::Over(End::Cells, m);
+    }
+    clear(w, lay, 0, variables);
+    go_on(file, w, lay, m)
 }
