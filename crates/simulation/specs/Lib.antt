@@ -1,0 +1,4 @@
+pub mod Places
+pub mod Rep
+pub mod Frames
+pub mod Undoes
