@@ -2,3 +2,6 @@ pub mod Places
 pub mod Rep
 pub mod Frames
 pub mod Undoes
+pub mod TableFrames
+pub mod States
+pub mod Backing

@@ -1,0 +1,5 @@
+pub mod Written
+pub mod Values
+pub mod Answering
+pub mod Leaving
+pub mod Unique
