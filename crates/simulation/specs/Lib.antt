@@ -1,5 +1,6 @@
 pub mod Places
 pub mod Rep
+pub mod PlaceLaws
 pub mod Frames
 pub mod Undoes
 pub mod TableFrames
