@@ -6,3 +6,4 @@ pub mod Undoes
 pub mod TableFrames
 pub mod States
 pub mod Backing
+pub mod Goals
