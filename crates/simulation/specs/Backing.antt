@@ -64,7 +64,7 @@ module _ (X : Setting) (fits : length (X .rules .predicates) + 2 * length (X .ru
     pub all : ChoicesAre X v s u (suc i) (choice ks g n ∷ cs)
 
   gone : (w v : List ℕ) (units trail i : ℕ) (s : Store) (u : ℕ) (ks : List Numbered) (g : Call) (n : Derivation) (cs : List Choice) → StoreRep X w s u trail units → Sound s → Within X s
-    → ChoicesAre X w s u (suc i) (choice ks g n ∷ cs) → n .cells ≤ u → step-word w (lay X) (suc i) 6 ≡ bindings (n .store) → Older (n .store) s → v ≡ undone trail (step-word w (lay X) (suc i) 6) (lay X) w → Gone w units i s u ks g n cs v
+      → ChoicesAre X w s u (suc i) (choice ks g n ∷ cs) → n .cells ≤ u → step-word w (lay X) (suc i) 6 ≡ bindings (n .store) → Older (n .store) s → v ≡ undone trail (step-word w (lay X) (suc i) 6) (lay X) w → Gone w units i s u ks g n cs v
   gone w v units trail i s u ks g n cs rep sound within all fewer mark older e =
       let b : trail ≡ bindings s = store-bindings X w trail s (rep .store) in
       let long : lay X .cells + C ≤ length w = cells-long w (rep .base) in
@@ -92,8 +92,8 @@ module _ (X : Setting) (fits : length (X .rules .predicates) + 2 * length (X .ru
 
   -- its next clause is tried
   retry-is : (w v : List ℕ) (m : Regs) (i : ℕ) (s : Store) (u : ℕ) (ks : List Numbered) (g : Call) (n : Derivation) (cs : List Choice) (d : Done) → i < X .limits .steps → m .units ≡ d .units
-    → Gone w (m .units) i s u ks g n cs v → ChoicesAre X v s u (suc i) (choice ks g n ∷ cs) → 0 < rest-word v (lay X) (suc i) .clause
-    → DueIs X v wanted room (retried v (lay X) m (step-word w (lay X) (suc i) 6) (suc i) i (rest-word v (lay X) (suc i) .prior) (rest-word v (lay X) (suc i) .clause - 1)) (fail (choice ks g n ∷ cs) d)
+      → Gone w (m .units) i s u ks g n cs v → ChoicesAre X v s u (suc i) (choice ks g n ∷ cs) → 0 < rest-word v (lay X) (suc i) .clause
+      → DueIs X v wanted room (retried v (lay X) m (step-word w (lay X) (suc i) 6) (suc i) i (rest-word v (lay X) (suc i) .prior) (rest-word v (lay X) (suc i) .clause - 1)) (fail (choice ks g n ∷ cs) d)
   unfolding rest-word retried fail step-next
   retry-is w v m i s u [] g n cs d l units gone (choices _ chain known numbers goal goals less links settled cells trail prior steps older fewer rest) h = absurd (omega arith)
   retry-is w v m i s u (k ∷ ks) g n cs d l units gone (choices _ chain known numbers goal goals less links settled cells trail prior steps older fewer rest) h =
@@ -118,13 +118,14 @@ module _ (X : Setting) (fits : length (X .rules .predicates) + 2 * length (X .ru
     where
       number-is : clause-next-word v (lay X) (step-word v (lay X) (suc i) 0) ≡ suc (k .number) → clause-next-word v (lay X) (step-word v (lay X) (suc i) 0) - 1 ≡ k .number
       number-is e = omega arith
+
       chain-is : clause-next-word v (lay X) (step-word v (lay X) (suc i) 0) ≡ suc (k .number) → Chain v (length (X .file)) (length (X .rules .predicates)) (X .rules) (word v (next-at (length (X .file)) (length (X .rules .predicates)) (k .number))) ks
-        → Chain v (length (X .file)) (length (X .rules .predicates)) (X .rules) (clause-next-word v (lay X) (k .number)) ks
+          → Chain v (length (X .file)) (length (X .rules .predicates)) (X .rules) (clause-next-word v (lay X) (k .number)) ks
       chain-is e c = subst (λ (x : ℕ). Chain v (length (X .file)) (length (X .rules .predicates)) (X .rules) x ks) (next-word v (k .number)) c
 
   -- it has no clause left
   popped : (v : List ℕ) (i : ℕ) (s : Store) (u : ℕ) (ks : List Numbered) (g : Call) (n : Derivation) (cs : List Choice) → ChoicesAre X v s u (suc i) (choice ks g n ∷ cs) → rest-word v (lay X) (suc i) .clause ≤ 0
-    → (ks ≡ []) × ChoicesAre X v (n .store) (n .cells) (rest-word v (lay X) (suc i) .prior) cs × (rest-word v (lay X) (suc i) .prior ≤ i)
+      → (ks ≡ []) × ChoicesAre X v (n .store) (n .cells) (rest-word v (lay X) (suc i) .prior) cs × (rest-word v (lay X) (suc i) .prior ≤ i)
   unfolding rest-word
   popped v i s u [] g n cs (choices _ chain known numbers goal goals less links settled cells trail prior steps older fewer rest) h =
       let p : below-of (step-word v (lay X) (suc i) 7) (suc i) ≡ step-word v (lay X) (suc i) 7 = prior-is _ i prior in
@@ -132,7 +133,7 @@ module _ (X : Setting) (fits : length (X .rules .predicates) + 2 * length (X .ru
   popped v i s u (k ∷ ks) g n cs (choices _ chain known numbers goal goals less links settled cells trail prior steps older fewer rest) h = let e = chain .0 in absurd (omega arith)
 
   pub backs-fail : {trail c : ℕ} {w v : List ℕ} {r : Due} (m : Regs) → Backs (lay X) m trail c w r v → (s : Store) (u : ℕ) (cs : List Choice) (d : Done) → StoreRep X w s u trail (m .units) → Sound s → Within X s
-    → ChoicesAre X w s u c cs → SoundAll cs → c ≤ X .limits .steps → m .units ≡ d .units → DueIs X v wanted room r (fail cs d)
+      → ChoicesAre X w s u c cs → SoundAll cs → c ≤ X .limits .steps → m .units ≡ d .units → DueIs X v wanted room r (fail cs d)
   unfolding fail end-number
   backs-fail m (no-choice h) s u _ d rep so wi no-choices al l un = is-over NoMore un
   backs-fail m (no-choice h) s u _ d rep so wi (choices i chain known numbers goal goals less links settled cells trail prior steps older fewer rest) al l un = absurd (omega arith)
@@ -142,8 +143,8 @@ module _ (X : Setting) (fits : length (X .rules .predicates) + 2 * length (X .ru
       let z : suc i - 1 ≡ i = omega arith in
       rw z (retry-is w v m i s u ks g n cs d (omega arith) un G (G .all) k)
   backs-fail m (pops h e k b) s u _ d rep so wi no-choices al l un = absurd (omega arith)
-  backs-fail m (pops {trail = trail} {w = w} {v = v} h e k b) s u _ d rep so wi (choices i {ks} {g} {n} {cs} chain known numbers goal goals less links settled cells mark prior steps older fewer rest) (more so′ wi′ few al) l un =
+  backs-fail m (pops {trail = trail} {w = w} {v = v} {u = x} {d = r} h e k b) s u _ d rep so wi (choices i {ks} {g} {n} {cs} chain known numbers goal goals less links settled cells mark prior steps older fewer rest) (more so′ wi′ few al) l un =
       let G = gone w v (m .units) trail i s u ks g n cs rep so wi (choices i chain known numbers goal goals less links settled cells mark prior steps older fewer rest) fewer mark older e in
       let (none-left, below, less′) = popped v i s u ks g n cs (G .all) k in
       let after = backs-fail m b (n .store) (n .cells) cs d (G .holds) so′ wi′ below al (omega arith) un in
-      subst (λ (ls : List Numbered). DueIs X _ wanted room _ (fail (choice ls g n ∷ cs) d)) (sym none-left) after
+      subst (λ (ls : List Numbered). DueIs X x wanted room r (fail (choice ls g n ∷ cs) d)) (sym none-left) after

@@ -119,6 +119,7 @@ module _ (X : Setting) (w : List ℕ) (tabled : Tabled (length (X .file)) (X .ru
       here-due : (c : Bool) → c || eqb (suc i) 0 ≡ true → c ≡ true
       here-due true e = refl
       here-due false e = sym (ne-eqb (suc i) 0 (λ z. omega arith)) ∙ e
+
       none-due : (c : Bool) → c || eqb (suc i) 0 ≡ false → c ≡ false
       none-due true e = e
       none-due false e = refl

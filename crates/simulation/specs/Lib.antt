@@ -7,3 +7,4 @@ pub mod TableFrames
 pub mod States
 pub mod Backing
 pub mod Goals
+pub mod Going

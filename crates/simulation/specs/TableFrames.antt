@@ -60,20 +60,21 @@ module _ (X : Setting) where
     clause-same : (p : ℕ) (c : Clause) → p + clause-length c ≤ F → AfterClause w p c → AfterClause v p c
     unfolding clause-length head-length
     clause-same p c h a = record {
-        body-place = e (after-at p) (omega arith) (omega arith) ∙ a .body-place;
-        head = terms-same (c .head .arguments) (p + 5) (omega arith) (a .head);
-        body = goals-after-same (c .body) (p + (5 + terms-length (c .head .arguments))) (omega arith) (a .body);
-      }
+      body-place = e (after-at p) (omega arith) (omega arith) ∙ a .body-place;
+      head = terms-same (c .head .arguments) (p + 5) (omega arith) (a .head);
+      body = goals-after-same (c .body) (p + (5 + terms-length (c .head .arguments))) (omega arith) (a .body);
+    }
 
     pub tabled-same : Tabled F (X .rules) w → Tabled F (X .rules) v
     tabled-same t = record {
-        clauses = λ k c q. clause-same (clause-place (X .rules) k) c (stands .clauses k c q .ends) (t .clauses k c q);
-        query = goals-after-same (X .rules .query) (query-place (X .rules) + 3) (let h = stands .ends in omega arith) (t .query);
-        chains = λ q a h. chain q a h;
-      }
+      clauses = λ k c q. clause-same (clause-place (X .rules) k) c (stands .clauses k c q .ends) (t .clauses k c q);
+      query = goals-after-same (X .rules .query) (query-place (X .rules) + 3) (let h = stands .ends in omega arith) (t .query);
+      chains = λ q a h. chain q a h;
+    }
       where
         numbers : (q : ℕ) → Each (λ k. k .number < length (X .rules .clauses)) (clauses-of q 0 (X .rules .clauses))
         numbers q = each-map _ _ (λ k h. index-less (X .rules .clauses) (k .number) (k .clause) (h .0)) (clauses-of q 0 (X .rules .clauses)) (clauses-known q (X .rules .clauses))
+
         chain : (q a : ℕ) → getElem? (X .rules .predicates) q ≡ some a → Chain v F (length (X .rules .predicates)) (X .rules) (word v (first-at F q)) (clauses-of q 0 (X .rules .clauses))
         chain q a h =
             let l : q < length (X .rules .predicates) = index-less (X .rules .predicates) q a h in
