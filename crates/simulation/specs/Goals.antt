@@ -47,7 +47,7 @@ module _ (X : Setting) (w : List ℕ) (tabled : Tabled (length (X .file)) (X .ru
   pub data First (p f : ℕ) : List Open → Type 0 where
     no-goal : kind p ≢ 6 → kind p ≢ 7 → f ≡ 0 → First p f []
     a-call : {g : Call} {os : List Open} (len : ℕ) → kind p ≡ 6 → GoalIs X w p (step-word w (lay X) f 5) g → word w (after-at p) ≡ p + len → p + len ≤ length (X .file) → GoalsAre X w (p + len) f os → First p f (goal g ∷ os)
-    a-cut : {h : ℕ} {os : List Open} → kind p ≡ 7 → (i : ℕ) → f ≡ suc i → HeightIs X w (step-word w (lay X) f 7) h → p + 1 ≤ length (X .file) → GoalsAre X w (p + 1) f os → First p f (cut-to h ∷ os)
+    a-cut : {h : ℕ} {os : List Open} → kind p ≡ 7 → (i : ℕ) → f ≡ suc i → HeightIs X w (step-word w (lay X) f 7) h → step-word w (lay X) f 7 ≤ i → p + 1 ≤ length (X .file) → GoalsAre X w (p + 1) f os → First p f (cut-to h ∷ os)
     an-idle : {os : List Open} → kind p ≡ 7 → f ≡ 0 → p + 1 ≤ length (X .file) → GoalsAre X w (p + 1) f os → First p f (cut-idle ∷ os)
 
   not-due : (p : ℕ) → goal-due (kind p) ≡ true → kind p ≢ 6 → kind p ≢ 7 → ⊥
@@ -77,7 +77,7 @@ module _ (X : Setting) (w : List ℕ) (tabled : Tabled (length (X .file)) (X .ru
   goals-first (in-body {p = p} i {gs = cut ∷ gs} body base high prior less links settled rest) s =
       let h = body-stands X body in
       let e : p + (1 + goals-length gs) ≤ length (X .file) = body-ends X body in
-      a-cut (h .0) i refl high (omega arith) (in-body i (later-body body) base high prior less links settled rest)
+      a-cut (h .0) i refl high prior (omega arith) (in-body i (later-body body) base high prior less links settled rest)
 
   -- ---- where they go on
   pub record SettledAt (b f : ℕ) (os : List Open) (x : Next) : Type 0 where

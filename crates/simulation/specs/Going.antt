@@ -118,9 +118,9 @@ module _ (X : Setting) (wanted room : ℕ) where
     first-goes (goal g ∷ os) e (a-call len k gi aw al ga) (Goal-move c j) =
         calls w m len g os n cs d at fair gi aw al ga units _ _ j (clauses-of (g .predicate) 0 (X .rules .clauses)) (numbers (g .predicate))
         (at .run .holds .base .tabled .chains (g .predicate) _ (subst (λ (x : List Open). Each (WellCall (X .rules) (n .cells)) (todo x)) e (fair .goals) .0 .arity))
-    first-goes (cut-to h ∷ os) e (a-cut k i z hi al ga) (Cut-move c) = is-cut (subst (λ (x : List Open). AtIs X w m [] (record { goals = x; store = n .store; cells = n .cells; steps = n .steps }) cs) e at) units
-    first-goes (cut-to h ∷ os) e (a-cut k i z hi al ga) (Answer-move c j) = absurd (c k)
-    first-goes (cut-to h ∷ os) e (a-cut k i z hi al ga) (Goal-move c j) = absurd (omega arith)
+    first-goes (cut-to h ∷ os) e (a-cut k i z hi pr al ga) (Cut-move c) = is-cut (subst (λ (x : List Open). AtIs X w m [] (record { goals = x; store = n .store; cells = n .cells; steps = n .steps }) cs) e at) units
+    first-goes (cut-to h ∷ os) e (a-cut k i z hi pr al ga) (Answer-move c j) = absurd (c k)
+    first-goes (cut-to h ∷ os) e (a-cut k i z hi pr al ga) (Goal-move c j) = absurd (omega arith)
     first-goes (cut-idle ∷ os) e (an-idle k z al ga) (Cut-move c) = is-idle (subst (λ (x : List Open). AtIs X w m [] (record { goals = x; store = n .store; cells = n .cells; steps = n .steps }) cs) e at) units
     first-goes (cut-idle ∷ os) e (an-idle k z al ga) (Answer-move c j) = absurd (c k)
     first-goes (cut-idle ∷ os) e (an-idle k z al ga) (Goal-move c j) = absurd (omega arith)

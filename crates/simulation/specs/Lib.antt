@@ -1,6 +1,7 @@
 pub mod Places
 pub mod Rep
 pub mod PlaceLaws
+pub mod Follows
 pub mod Frames
 pub mod Undoes
 pub mod TableFrames
@@ -8,3 +9,4 @@ pub mod States
 pub mod Backing
 pub mod Goals
 pub mod Going
+pub mod Cutting
