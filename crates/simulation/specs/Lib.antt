@@ -2,6 +2,7 @@ pub mod Places
 pub mod Rep
 pub mod PlaceLaws
 pub mod Follows
+pub mod Ranges
 pub mod Frames
 pub mod Undoes
 pub mod TableFrames
@@ -10,3 +11,4 @@ pub mod Backing
 pub mod Goals
 pub mod Going
 pub mod Cutting
+pub mod Pushing
