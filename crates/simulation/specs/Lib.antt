@@ -12,3 +12,4 @@ pub mod Goals
 pub mod Going
 pub mod Cutting
 pub mod Pushing
+pub mod Fresh

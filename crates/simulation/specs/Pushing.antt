@@ -105,11 +105,11 @@ module _ (X : Setting) where
   after-term-word w p (Term.var x) a = a
   after-term-word w p (Term.app f ts) a = a .0
 
-  place-word : (p : ℕ) → p ≤ 60000 → word-of-place (record { 0 = p }) ≡ p
+  pub place-word : (p : ℕ) → p ≤ 60000 → word-of-place (record { 0 = p }) ≡ p
   unfolding word-of-place
   place-word p h = mod-eq-of-lt (omega arith)
 
-  work-tables : (w v : List ℕ) (lo hi : ℕ) → lay X .work ≤ lo → Keeps lo hi w v → SameTables X w v
+  pub work-tables : (w v : List ℕ) (lo hi : ℕ) → lay X .work ≤ lo → Keeps lo hi w v → SameTables X w v
   unfolding layout-of
   work-tables w v lo hi h k i a b = k .same i (inl (omega arith))
 
@@ -160,7 +160,7 @@ module _ (X : Setting) where
       let f = X .short in
       ap (λ (i : ℕ). getD v i 0) (ahead-small 64 p (omega arith)) ∙ after-term-word v p t (terms-after X v (b .tabled) s .0)
 
-  place-few : (p : ℕ) (t : Term) (ts : Terms) → TermsAt (X .rules) p (t ∷ₜ ts) → p ≤ 60000
+  pub place-few : (p : ℕ) (t : Term) (ts : Terms) → TermsAt (X .rules) p (t ∷ₜ ts) → p ≤ 60000
   unfolding terms-length
   place-few p t ts s = let e : p + (term-length t + terms-length ts) ≤ length (X .file) = terms-end X s in let f = X .short in omega arith
 

@@ -1,0 +1,8 @@
+mod IfLaws
+mod StepLaws
+mod TermLaws
+mod ClauseLaws
+mod Onward
+mod ItemLaws
+mod RowLaws
+mod FileLaws

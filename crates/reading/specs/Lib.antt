@@ -1,0 +1,4 @@
+pub mod Verdict
+pub mod Steps
+pub mod Arities
+pub mod SoFar
