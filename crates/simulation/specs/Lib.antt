@@ -2,6 +2,7 @@ pub mod Places
 pub mod Rep
 pub mod PlaceLaws
 pub mod Follows
+pub mod Insides
 pub mod Ranges
 pub mod Frames
 pub mod Undoes

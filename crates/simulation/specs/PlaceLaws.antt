@@ -1,14 +1,14 @@
 -- What stands at the places of terms and goals, what the tables say of them, and that they fit.
 -- Assumes nothing.
-use Prim.Native.Nat.{ℕ, suc, _+_, _*_, _≤_, _<_}
-use mathlib.Core.Path.{_≡_, refl, sym, _∙_}
-use mathlib.Core.List.{List, [], _∷_}
+use Prim.Native.Nat.{ℕ, _+_, _*_, _≤_}
+use mathlib.Core.Path.{_≡_}
+use mathlib.Core.List.{List, _∷_}
 use mathlib.Core.Option.{some}
 use lib.ListN.{length, getElem?}
 use native.Mathlib.Omega.{arith}
-use Rattle.meaning.specs.Terms.{Term, var, app, Terms, []ₜ, _∷ₜ_, count}
+use Rattle.meaning.specs.Terms.{Term, app, Terms, _∷ₜ_, count}
 use Rattle.meaning.specs.Kinds.{variable-limit}
-use Rattle.meaning.specs.Rules.{Call, Goal, call, cut, Clause, Rules}
+use Rattle.meaning.specs.Rules.{Call, Goal, call, Clause, Rules}
 use Rattle.meaning.specs.Reading.{byte}
 use Rattle.layout.specs.Lengths.{term-length, terms-length, goal-length, goals-length, head-length, clause-length, clause-place, query-place}
 use Rattle.layout.specs.Standing.{StandsTerms, StandsGoals, StandsRules}
