@@ -14,3 +14,4 @@ pub mod Going
 pub mod Cutting
 pub mod Pushing
 pub mod Fresh
+pub mod Entering
