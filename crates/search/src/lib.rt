@@ -121,9 +121,9 @@ fn below(a: u32, b: u32) -> u32
 }
 
 // The choice of a step: the choice before it, and the next clause to try, from 1.
-struct Rest {
-    prior: u32,
-    clause: u32,
+pub struct Rest {
+    pub prior: u32,
+    pub clause: u32,
 }
 
 fn rest_of(w: &[u32], lay: Layout, c: u32) -> Rest
@@ -267,7 +267,7 @@ fn put_step(w: &mut [u32], lay: Layout, t: Trial, m: Regs)
 }
 
 // Whether a trial has room, and where its clause stands.
-enum Room {
+pub enum Room {
     Cells,
     Steps,
     Fits(Place, u32),

@@ -193,7 +193,7 @@ module _ (X : Setting) where
     unfolding over
     raw-arguments = sym (ap (λ (c : Call). c .arguments) (try .goal .is))
 
-    arity-is : arity-at (X .file) (length (X .rules .functions)) (t .goal) ≡ count (try .goal .raw .arguments)
+    pub arity-is : arity-at (X .file) (length (X .rules .functions)) (t .goal) ≡ count (try .goal .raw .arguments)
     unfolding arity-at over
     arity-is =
         let e : g .predicate ≡ try .goal .raw .predicate = ap (λ (c : Call). c .predicate) (try .goal .is) in

@@ -15,3 +15,4 @@ pub mod Cutting
 pub mod Pushing
 pub mod Fresh
 pub mod Entering
+pub mod Trying
