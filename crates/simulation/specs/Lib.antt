@@ -16,3 +16,4 @@ pub mod Pushing
 pub mod Fresh
 pub mod Entering
 pub mod Trying
+pub mod Packing
