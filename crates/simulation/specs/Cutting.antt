@@ -76,6 +76,7 @@ module _ (X : Setting) (wanted room : ℕ) where
     cut-at h c l s = record {
       run = record { holds = at .run .holds; cells = at .run .cells; steps = at .run .steps; few-steps = at .run .few-steps; choices = c; choice = l };
       pairs = at .pairs;
+      few = at .few;
       next = record { goals = s .goals; step = let a = s .step in let b = at .next .step in omega arith; links = s .links; settled = s .settled };
     }
 

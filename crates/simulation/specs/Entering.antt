@@ -349,5 +349,6 @@ module _ (X : Setting) where
         choice = omega arith;
       };
       pairs = subst (PairsAre X v₃ (count (try .goal .raw .arguments))) (append-nil (pairs (g .arguments) (over (n .cells) (k .clause .head) .arguments))) (let z : 0 + count (try .goal .raw .arguments) ≡ count (try .goal .raw .arguments) = omega arith in subst (λ (c : ℕ). PairsAre X v₃ c (pairs (g .arguments) (over (n .cells) (k .clause .head) .arguments) ++ [])) z (pushes .pairs));
+      few = let c = raw-count in let f = ok .few in omega arith;
       next = rw steps-is (record { goals = next₃ .goals; step = next₃ .step; links = next₃ .links; settled = next₃ .settled });
     }

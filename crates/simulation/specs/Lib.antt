@@ -17,3 +17,4 @@ pub mod Fresh
 pub mod Entering
 pub mod Trying
 pub mod Packing
+pub mod Taking

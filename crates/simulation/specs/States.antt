@@ -64,6 +64,7 @@ module _ (X : Setting) (w : List ℕ) where
   pub record AtIs (m : Regs) (ps : List Pair) (n : Derivation) (cs : List Choice) : Type 0 where
     pub run : Run m n cs
     pub pairs : PairsAre X w (m .work) ps
+    pub few : m .work ≤ X .limits .work
     pub next : Onward m (m .next) (n .goals)
 
   module _ (wanted room : ℕ) where

@@ -1,0 +1,250 @@
+-- Taking the front pair comes to what the definition says.
+-- Assumes nothing.
+use Prim.Native.Nat.{ℕ, zero, suc, _+_, _-_, _*_, _%_, _^_, _≤_, _<_}
+use mathlib.Core.Path.{_≡_, refl, ap, ap₂, sym, _∙_, subst}
+use mathlib.Core.Logic.{_⊎_, inl, inr, _≢_}
+use mathlib.Core.Bool.{Bool, true, false, not}
+use mathlib.Core.List.{List, [], _∷_, _++_}
+use mathlib.Core.Option.{Option, some}
+use native.Mathlib.Omega.{arith}
+use lib.Dec.{eqb, ltb}
+use lib.ListN.{length, getElem?, getD, set, length-set}
+use lib.Seq.{getD-set-other, getD-set-same}
+use borrow.Author.Tests.{eqb-true, eqb-false, eq-eqb, ne-eqb, ltb-true, ltb-false, lt-ltb, le-ltb}
+use Rattle.meaning.specs.If.{if_then_else_}
+use Rattle.meaning.specs.Kinds.{arity-limit}
+use Rattle.meaning.specs.Terms.{Term, var, app, Terms, count, inst, insts, from, occurs}
+use Rattle.meaning.specs.Rules.{Call, Rules}
+use Rattle.meaning.specs.Reading.{byte}
+use Rattle.meaning.specs.Store.{Store, bind, value, follow}
+use Rattle.meaning.specs.Outcome.{end-number}
+use Rattle.meaning.specs.declared.End.the-variants.{Work}
+use Rattle.meaning.specs.Moves.{Open, Derivation, Numbered, Choice, choice, Pair, pairs, Done, State, ended, with-binding, fail, matching, binding, compared, take-pair}
+use Rattle.meaning.specs.Call.{needed}
+use Rattle.laws.specs.IfLaws.{if-by, if-true, if-false}
+use Rattle.demands.specs.TermLaws.{In, occurs-false}
+use Rattle.demands.specs.StoreLaws.{Free, Sound, follow-free}
+use Rattle.demands.specs.WellLaws.{Good, GoodStore, GoodPairs, follow-good}
+use Rattle.demands.specs.Ways.{GoodAt}
+use Rattle.layout.specs.Regions.{word, Keeps}
+use Rattle.words.specs.Words.{plus, ahead}
+use Rattle.cells.specs.Cells.{cell-at, cell-of, word-of, Inside}
+use Rattle.cells.specs.declared.Held.{Held}
+use Rattle.cells.specs.declared.Cell.the-variants.{Bound}
+use Rattle.cells.specs.declared.Found.{Found}
+use Rattle.cells.specs.declared.Found.the-variants.{Unbound, Function}
+use Rattle.matching.specs.Matching.{held-at, past-kind, pushed, BindChecked, is-inside, binds, Functions, unequal, crowded, equal, front-of, Compares, one-variable, head-variable, head-free, goal-free, both-applied, TakesPair, no-pair, front}
+use Rattle.matching.specs.declared.Pairing.{Pairing}
+use Rattle.matching.specs.declared.Pairing.the-variants.{Same, Differ, Over}
+use Rattle.search.specs.Search.{step-word, MovesPair, same, differ, over-work}
+use Rattle.search.specs.declared.Regs.{Regs}
+use Rattle.search.specs.declared.Due.{Due}
+use Rattle.simulation.specs.Places.{TermsAt, of-term, IsHeld}
+use Rattle.simulation.specs.PlaceLaws.{arity-stands}
+use Rattle.simulation.specs.Rep.{Setting, lay, layout-of, Base, StoreIs, FreeIs, MarksAre, PairsAre, ChoicesAre, Older, now, since, bindings}
+use Rattle.simulation.specs.Ranges.{Range, in-range-is}
+use Rattle.simulation.specs.Frames.{SameSteps, SameTables, steps-same, goals-same, links-same, choices-same, choices-later}
+use Rattle.simulation.specs.TableFrames.{tables-room, base-same}
+use Rattle.simulation.specs.Undoes.{Within, store-bindings, store-set}
+use Rattle.simulation.specs.Follows.{Stored, FoundIs, follows, bindings-few}
+use Rattle.simulation.specs.Insides.{Looking, insides, store-same, stored-kept}
+use Rattle.simulation.specs.States.{StoreRep, Run, Onward, AtIs, DueIs, is-over}
+use Rattle.simulation.specs.Backing.{SoundAll, backs-fail}
+use Rattle.simulation.specs.Going.{Fair, ahead-small}
+use Rattle.simulation.specs.Cutting.{matches-on}
+use Rattle.simulation.specs.Pushing.{plus-small, pairs-same, work-room, words-small, Pushed, pushed-pairs, place-few, work-tables}
+use Rattle.simulation.specs.Packing.{packed-held}
+use Rattle.simulation.specs.Trying.{given-of}
+
+module _ (X : Setting) where
+  abbrev C : ℕ
+  C = X .limits .cells
+
+  -- ---- one binding more
+  -- words that differ in cells, trail, marks and list alone
+  pub record Inner (w v : List ℕ) : Type 0 where
+    pub as-long : length v ≡ length w
+    pub tables : SameTables X w v
+    pub above : (i : ℕ) → lay X .steps ≤ i → word v i ≡ word w i
+
+  pub inner-steps : (w v : List ℕ) (k : ℕ) → Inner w v → SameSteps X k w v
+  unfolding step-word
+  inner-steps w v k i zero j l = refl
+  inner-steps w v k i (suc s) j l = i .above _ (omega arith)
+
+  pub inner-then : (u v w : List ℕ) → Inner u v → Inner v w → Inner u w
+  inner-then u v w a b = record { as-long = b .as-long ∙ a .as-long; tables = λ i h k. b .tables i h k ∙ a .tables i h k; above = λ i h. b .above i h ∙ a .above i h }
+
+  module _ (w : List ℕ) (s : Store) (u k units x : ℕ) (h : Held) (t : Term) (rep : StoreRep X w s u k units) (sound : Sound (bind x t s)) (good : GoodStore (X .rules .functions) u (bind x t s)) (held : IsHeld (X .rules) h t) where
+    abbrev w₁ : List ℕ
+    w₁ = set w (lay X .cells + x) (word-of h)
+
+    abbrev w₂ : List ℕ
+    w₂ = set w₁ (lay X .trail + k) x
+
+    k-less : k < u
+    unfolding bindings
+    k-less = let b = store-bindings X w k s (rep .store) in let f = bindings-few (X .rules .functions) u (bind x t s) sound good in omega arith
+
+    few-60000 : u ≤ 60000
+    few-60000 = let r = in-range-is (X .limits) (X .in-limits) in let c = r .few-cells in let f = rep .few in omega arith
+
+    cells-in : lay X .cells + x < length w
+    unfolding layout-of needed
+    cells-in = let l = rep .base .long in let f = rep .few in let g = good .0 in omega arith
+
+    trail-in : lay X .trail + k < length w
+    unfolding layout-of needed
+    trail-in = let l = rep .base .long in let f = rep .few in let g = k-less in omega arith
+
+    pub bound-inner : Inner w w₂
+    unfolding layout-of
+    bound-inner =
+        let a = good .0 in let b = k-less in let f = rep .few in
+        record {
+          as-long = simp length-set refl;
+          tables = λ i c d. getD-set-other w₁ _ i x 0 (λ e. omega arith) ∙ getD-set-other w _ i (word-of h) 0 (λ e. omega arith);
+          above = λ i c. getD-set-other w₁ _ i x 0 (λ e. omega arith) ∙ getD-set-other w _ i (word-of h) 0 (λ e. omega arith);
+        }
+
+    cell-word : word w₂ (lay X .cells + x) ≡ word-of h
+    unfolding layout-of
+    cell-word = let a = good .0 in let f = rep .few in getD-set-other w₁ _ _ x 0 (λ e. omega arith) ∙ getD-set-same w _ (word-of h) 0 cells-in
+
+    other-cell : (y : ℕ) → y < u → y ≢ x → word w₂ (lay X .cells + y) ≡ word w (lay X .cells + y)
+    unfolding layout-of
+    other-cell y l n = let f = rep .few in getD-set-other w₁ _ _ x 0 (λ e. omega arith) ∙ getD-set-other w _ _ (word-of h) 0 (λ e. n (omega arith))
+
+    mark-word : (y : ℕ) → word w₂ (lay X .marks + y) ≡ word w (lay X .marks + y)
+    unfolding layout-of
+    mark-word y = let a = good .0 in let b = k-less in let f = rep .few in getD-set-other w₁ _ _ x 0 (λ e. omega arith) ∙ getD-set-other w _ _ (word-of h) 0 (λ e. omega arith)
+
+    trail-word : (j : ℕ) → j < k → word w₂ (lay X .trail + j) ≡ word w₁ (lay X .trail + j)
+    trail-word j l = getD-set-other w₁ _ _ x 0 (λ e. omega arith)
+
+    cell-word-1 : (y : ℕ) → y < u → word w₂ (lay X .cells + y) ≡ word w₁ (lay X .cells + y)
+    unfolding layout-of
+    cell-word-1 y l = let f = rep .few in getD-set-other w₁ _ _ x 0 (λ e. omega arith)
+
+    pub bound-rep : StoreRep X w₂ (bind x t s) u (suc k) units
+    unfolding cell-at
+    bound-rep =
+        let (r, e, i) = packed-held X u few-60000 h t held (good .1) in
+        record {
+          base = base-same X w w₂ (bound-inner .tables) (bound-inner .as-long) (rep .base);
+          store = (
+            k,
+            refl,
+            getD-set-same w₁ (lay X .trail + k) x 0 (let q = trail-in in simp length-set (omega arith)),
+            (r, ap cell-of cell-word ∙ e, i),
+            store-same X w₁ w₂ k u s cell-word-1 trail-word (good .2) (store-set X w k s x (word-of h) (let f = rep .few in let g = good .0 in omega arith) (sound .0) (rep .store)),
+          );
+          free = λ y l f. other-cell y l (f .0) ∙ rep .free y l (f .1);
+          few = rep .few;
+          marks = λ y l. subst (λ (z : ℕ). z < suc units) (sym (mark-word y)) (rep .marks y l);
+        }
+
+  -- ---- the same derivation over other inner words
+  inner-run : (w v : List ℕ) (m : Regs) (n : Derivation) (cs : List Choice) (s : Store) (trail work : ℕ) → Inner w v → Run X w m n cs → Older (n .store) s → StoreRep X v s (n .cells) trail (m .units)
+      → Run X v (record { cells = m .cells; trail = trail; steps = m .steps; choice = m .choice; work = work; next = m .next; units = m .units }) (record { goals = n .goals; store = s; cells = n .cells; steps = n .steps }) cs
+  inner-run w v m n cs s trail work i r o rep = record {
+    holds = rep;
+    cells = r .cells;
+    steps = steps-same X (m .steps) w v (inner-steps w v (m .steps) i) (m .steps) (n .steps) (omega arith) (r .steps);
+    few-steps = r .few-steps;
+    choices = choices-later X v o (omega arith) (choices-same X w v (i .tables) (tables-room X) (m .steps) (inner-steps w v (m .steps) i) (r .choice) (r .choices));
+    choice = r .choice;
+  }
+
+  inner-onward : (w v : List ℕ) (m : Regs) (n : Derivation) (trail work : ℕ) (c : m .choice ≤ m .steps) → Inner w v → Onward X w m (m .next) (n .goals)
+      → Onward X v (record { cells = m .cells; trail = trail; steps = m .steps; choice = m .choice; work = work; next = m .next; units = m .units }) (m .next) (n .goals)
+  inner-onward w v m n trail work c i o = record {
+    goals = goals-same X (m .steps) w v (inner-steps w v (m .steps) i) (o .step) (o .goals);
+    step = o .step;
+    links = links-same X (m .steps) w v (inner-steps w v (m .steps) i) (m .choice) (m .next .step) c (o .step) (o .links);
+    settled = o .settled;
+  }
+
+  inner-pairs : (w v : List ℕ) (j : ℕ) (ps : List Pair) → Base X w → j ≤ X .limits .work → Inner w v → PairsAre X w j ps → PairsAre X v j ps
+  unfolding layout-of
+  inner-pairs w v j ps b l i q = pairs-same X w v j ps (let a = words-small X w b in let c = work-room X w b in omega arith) (λ k h z. i .above k (omega arith)) q
+
+  pairs-few : (w : List ℕ) (j : ℕ) (ps : List Pair) → PairsAre X w j ps → j ≡ length ps
+  pairs-few w j [] e = e
+  pairs-few w j (p ∷ ps) (i, e, a, b, r) = e ∙ ap suc (pairs-few w i ps r)
+
+  marks-inner : (w v : List ℕ) → Keeps (lay X .marks) (lay X .marks + 2 * C) w v → Inner w v
+  unfolding layout-of
+  marks-inner w v k = record { as-long = k .same-length; tables = λ i a b. k .same i (inl (omega arith)); above = λ i a. k .same i (inr (omega arith)) }
+
+  module _ (wanted room : ℕ) (few-arity : (f a : ℕ) → getElem? (X .rules .functions) f ≡ some a → a ≤ arity-limit) (w : List ℕ) (m : Regs) (p : Pair) (ps : List Pair) (n : Derivation) (cs : List Choice) (d : Done)
+      (at : AtIs X w m (p ∷ ps) n cs) (marks : MarksAre X w (n .cells) (m .units)) (good : GoodAt (X .rules) n) (well : GoodPairs (X .rules .functions) (n .cells) (p ∷ ps)) (fair : Fair X wanted room n cs) (units : m .units ≡ d .units) where
+    abbrev s : Store
+    s = n .store
+
+    abbrev j : ℕ
+    j = at .pairs .0
+
+    rest-is : m .work - 1 ≡ j
+    rest-is = let e = at .pairs .1 in omega arith
+
+    cells-few : n .cells ≤ 60000
+    cells-few = let r = in-range-is (X .limits) (X .in-limits) in let c = r .few-cells in let f = at .run .holds .few in omega arith
+
+    stored : Stored X w (m .trail) (n .cells) s
+    stored = record { sound = good .sound; is = at .run .holds .store; free = at .run .holds .free; good = good .store; few = cells-few }
+
+    -- what the pair comes to
+    pub data Comes (v : List ℕ) : Pairing → State → Type 0 where
+      goes : (trail work : ℕ) (qs : List Pair) (o : Derivation)
+          → AtIs X v (record { cells = m .cells; trail = trail; steps = m .steps; choice = m .choice; work = work; next = m .next; units = m .units }) qs o cs → Fair X wanted room o cs → Comes v (Same trail work) (matching (X .rules) (X .limits) wanted room qs o cs d)
+      fails : Inner w v → StoreRep X v s (n .cells) (m .trail) (m .units) → Comes v Differ (fail cs d)
+      fills : Comes v Over (ended 25 d)
+
+    -- matching goes on with the other pairs, nothing being changed
+    goes-same : Comes w (Same (m .trail) j) (matching (X .rules) (X .limits) wanted room ps n cs d)
+    goes-same =
+        goes (m .trail) j ps n (record {
+          run = inner-run w w m n cs s (m .trail) j unchanged (at .run) now (at .run .holds);
+          pairs = at .pairs .4;
+          few = let e = at .pairs .1 in let f = at .few in omega arith;
+          next = inner-onward w w m n (m .trail) j (at .run .choice) unchanged (at .next);
+        }) fair
+      where
+        unchanged : Inner w w
+        unchanged = record { as-long = refl; tables = λ i a b. refl; above = λ i a. refl }
+
+    -- nothing but marks and lists has changed
+    kept : (v : List ℕ) → Keeps (lay X .marks) (lay X .marks + 2 * C) w v → MarksAre X v (n .cells) (suc (m .units)) → StoreRep X v s (n .cells) (m .trail) (m .units)
+    kept v k mk =
+        let st = stored-kept (at .run .holds .few) k stored in
+        record { base = base-same X w v (marks-inner w v k .tables) (k .same-length) (at .run .holds .base); store = st .is; free = st .free; few = at .run .holds .few; marks = mk }
+
+    -- the variable is bound
+    bound : (x : ℕ) (h : Held) (t : Term) (v : List ℕ) → Inner w v → StoreRep X v s (n .cells) (m .trail) (m .units) → Sound (bind x t s) → GoodStore (X .rules .functions) (n .cells) (bind x t s) → IsHeld (X .rules) h t
+        → Comes (set (set v (lay X .cells + x) (word-of h)) (lay X .trail + m .trail) x) (Same (plus (m .trail) 1) j) (matching (X .rules) (X .limits) wanted room ps (with-binding x t n) cs d)
+    unfolding with-binding
+    bound x h t v i rep sound-then good-then held =
+        let u : List ℕ = set (set v (lay X .cells + x) (word-of h)) (lay X .trail + m .trail) x in
+        let b : Inner w u = inner-then w v u i (bound-inner v s (n .cells) (m .trail) (m .units) x h t rep sound-then good-then held) in
+        let r : StoreRep X u (bind x t s) (n .cells) (suc (m .trail)) (m .units) = bound-rep v s (n .cells) (m .trail) (m .units) x h t rep sound-then good-then held in
+        let z : plus (m .trail) 1 ≡ suc (m .trail) = (let k = k-less v s (n .cells) (m .trail) (m .units) x h t rep sound-then good-then held in let c = cells-few in plus-small (m .trail) 1 (omega arith) ∙ omega arith) in
+        subst (λ (k : ℕ). Comes u (Same k j) (matching (X .rules) (X .limits) wanted room ps (record { goals = n .goals; store = bind x t s; cells = n .cells; steps = n .steps }) cs d)) (sym z)
+        (goes (suc (m .trail)) j ps (record { goals = n .goals; store = bind x t s; cells = n .cells; steps = n .steps }) (record {
+          run = inner-run w u m n cs (bind x t s) (suc (m .trail)) j b (at .run) (since now) r;
+          pairs = inner-pairs w u j ps (at .run .holds .base) (let e = at .pairs .1 in let f = at .few in omega arith) b (at .pairs .4);
+          few = let e = at .pairs .1 in let f = at .few in omega arith;
+          next = inner-onward w u m n (suc (m .trail)) j (at .run .choice) b (at .next);
+        }) (record { sound = sound-then; within = (let f = at .run .holds .few in let g = good-then .0 in omega arith, fair .within); goals = fair .goals; choices = fair .choices }))
+
+    -- a free variable is bound, or stands inside its new value
+    binds-or : (x : ℕ) (h : Held) (t : Term) {c : Pairing} {v : List ℕ} → BindChecked (X .file) (lay X) (m .units) (m .trail) j (record { 0 = x }) h w c v → x < n .cells → Free x s → IsHeld (X .rules) h t → Good (X .rules .functions) (n .cells) t
+        → Comes v c (binding (X .rules) (X .limits) wanted room x t ps n cs d)
+    unfolding binding with-binding
+    binds-or x h t (is-inside {v = v} i) l f held g =
+        let (e, k, mk) = insides (record { stored = stored; base = at .run .holds .base; free = f; room = at .run .holds .few; marks = marks }) h t held g i in
+        subst (Comes v Differ) (sym (if-true _ _ _ (sym e))) (fails (marks-inner w v k) (kept v k mk))
+    binds-or x h t (binds {v = v} i) l f held g =
+        let (e, k, mk) = insides (record { stored = stored; base = at .run .holds .base; free = f; room = at .run .holds .few; marks = marks }) h t held g i in
+        subst (Comes _ (Same (plus (m .trail) 1) j)) (sym (if-false _ _ _ (sym e)))
+        (bound x h t v (marks-inner w v k) (kept v k mk) (f, occurs-false x _ (sym e), good .sound) (l, g, good .store) held)
