@@ -5,15 +5,16 @@ use mathlib.Core.Path.{_≡_, refl, ap, ap₂, sym, _∙_, subst}
 use mathlib.Core.Logic.{_⊎_, inl, inr, _≢_}
 use mathlib.Core.Bool.{Bool, true, false, not}
 use mathlib.Core.List.{List, [], _∷_, _++_}
-use mathlib.Core.Option.{Option, some}
+use mathlib.Core.Option.{Option, some, Option·some-injective}
 use native.Mathlib.Omega.{arith}
+use native.Mathlib.Nat.{mod-lt}
 use lib.Dec.{eqb, ltb}
-use lib.ListN.{length, getElem?, getD, set, length-set}
+use lib.ListN.{length, getElem?, getD, set, length-set, length-append}
 use lib.Seq.{getD-set-other, getD-set-same}
 use borrow.Author.Tests.{eqb-true, eqb-false, eq-eqb, ne-eqb, ltb-true, ltb-false, lt-ltb, le-ltb}
 use Rattle.meaning.specs.If.{if_then_else_}
 use Rattle.meaning.specs.Kinds.{arity-limit}
-use Rattle.meaning.specs.Terms.{Term, var, app, Terms, count, inst, insts, from, occurs}
+use Rattle.meaning.specs.Terms.{Term, var, app, Terms, []ₜ, _∷ₜ_, count, inst, insts, from, occurs}
 use Rattle.meaning.specs.Rules.{Call, Rules}
 use Rattle.meaning.specs.Reading.{byte}
 use Rattle.meaning.specs.Store.{Store, bind, value, follow}
@@ -22,7 +23,7 @@ use Rattle.meaning.specs.declared.End.the-variants.{Work}
 use Rattle.meaning.specs.Moves.{Open, Derivation, Numbered, Choice, choice, Pair, pairs, Done, State, ended, with-binding, fail, matching, binding, compared, take-pair}
 use Rattle.meaning.specs.Call.{needed}
 use Rattle.laws.specs.IfLaws.{if-by, if-true, if-false}
-use Rattle.demands.specs.TermLaws.{In, occurs-false}
+use Rattle.demands.specs.TermLaws.{In, occurs-false, count-insts}
 use Rattle.demands.specs.StoreLaws.{Free, Sound, follow-free}
 use Rattle.demands.specs.WellLaws.{Good, GoodStore, GoodPairs, follow-good}
 use Rattle.demands.specs.Ways.{GoodAt}
@@ -248,3 +249,104 @@ module _ (X : Setting) where
         let (e, k, mk) = insides (record { stored = stored; base = at .run .holds .base; free = f; room = at .run .holds .few; marks = marks }) h t held g i in
         subst (Comes _ (Same (plus (m .trail) 1) j)) (sym (if-false _ _ _ (sym e)))
         (bound x h t v (marks-inner w v k) (kept v k mk) (f, occurs-false x _ (sym e), good .sound) (l, g, good .store) held)
+
+    -- ---- two functions applied
+    -- a function applied that is held stands as one in the rules
+    held-app : (h : Held) (f : ℕ) (ts : Terms) → IsHeld (X .rules) h (app f ts) → (us : Terms) × (bs : Terms) × TermsAt (X .rules) (h .place .0) (app f us ∷ₜ bs) × (ts ≡ insts (from (h .base .0)) us)
+    unfolding inst from
+    held-app h f ts i = go (i .raw) (i .stands) (i .is)
+      where
+        go : (r : Term) → TermsAt (X .rules) (h .place .0) (r ∷ₜ i .behind) → app f ts ≡ inst (from (h .base .0)) r → (us : Terms) × (bs : Terms) × TermsAt (X .rules) (h .place .0) (app f us ∷ₜ bs) × (ts ≡ insts (from (h .base .0)) us)
+        go (var y) t e = let z : _≡_ {A = ℕ} 0 1 = cc in absurd (omega arith)
+        go (app g us) t e = let q : f ≡ g = cc in (us, i .behind, rw q t, cc)
+
+    -- the words of the work region do not matter to the rest
+    work-run : (v : List ℕ) (lo hi work : ℕ) → lay X .work ≤ lo → Keeps lo hi w v → Run X v (record { cells = m .cells; trail = m .trail; steps = m .steps; choice = m .choice; work = work; next = m .next; units = m .units }) n cs
+      × Onward X v (record { cells = m .cells; trail = m .trail; steps = m .steps; choice = m .choice; work = work; next = m .next; units = m .units }) (m .next) (n .goals)
+    unfolding layout-of step-word
+    work-run v lo hi work l k =
+        let low : (i : ℕ) → i < lay X .work → word v i ≡ word w i = λ i h. k .same i (inl (omega arith)) in
+        let tables : SameTables X w v = work-tables X w v lo hi l k in
+        let st : SameSteps X (m .steps) w v = steps-low v low in
+        (record {
+          holds = record {
+            base = base-same X w v tables (k .same-length) (at .run .holds .base);
+            store = store-same X w v (m .trail) (n .cells) s (λ y h. low _ (cells-low y h)) (λ i h. low _ (trail-low i h)) (good .store) (at .run .holds .store);
+            free = λ x h f. low _ (cells-low x h) ∙ at .run .holds .free x h f;
+            few = at .run .holds .few;
+            marks = λ x h. subst (λ (z : ℕ). z < suc (m .units)) (sym (low _ (marks-low x h))) (at .run .holds .marks x h);
+          };
+          cells = at .run .cells;
+          steps = steps-same X (m .steps) w v st (m .steps) (n .steps) (omega arith) (at .run .steps);
+          few-steps = at .run .few-steps;
+          choices = choices-same X w v tables (tables-room X) (m .steps) st (at .run .choice) (at .run .choices);
+          choice = at .run .choice;
+        },
+        record {
+          goals = goals-same X (m .steps) w v st (at .next .step) (at .next .goals);
+          step = at .next .step;
+          links = links-same X (m .steps) w v st (m .choice) (m .next .step) (at .run .choice) (at .next .step) (at .next .links);
+          settled = at .next .settled;
+        })
+      where
+        trail-few : m .trail ≤ C
+        trail-few = let b = store-bindings X w (m .trail) s (at .run .holds .store) in let c = bindings-few (X .rules .functions) (n .cells) s (good .sound) (good .store) in let f = at .run .holds .few in omega arith
+        cells-low : (y : ℕ) → y < n .cells → lay X .cells + y < lay X .work
+        cells-low y h = let f = at .run .holds .few in omega arith
+        marks-low : (y : ℕ) → y < n .cells → lay X .marks + y < lay X .work
+        marks-low y h = let f = at .run .holds .few in omega arith
+        trail-low : (i : ℕ) → i < m .trail → lay X .trail + i < lay X .work
+        trail-low i h = let f = trail-few in omega arith
+        steps-low : (v : List ℕ) → ((i : ℕ) → i < lay X .work → word v i ≡ word w i) → SameSteps X (m .steps) w v
+        steps-low v low zero q h = refl
+        steps-low v low (suc i) q h = let r = mod-lt q {m = 8} (omega arith) in let f = at .run .few-steps in low _ (omega arith)
+
+    unchanged-fails : Comes w Differ (fail cs d)
+    unchanged-fails = fails (record { as-long = refl; tables = λ i a b. refl; above = λ i a. refl }) (at .run .holds)
+
+    pairs-length : (ts us : Terms) → count ts ≡ count us → length (pairs ts us) ≡ count ts
+    unfolding pairs count
+    pairs-length []ₜ us e = refl
+    pairs-length (t ∷ₜ ts) []ₜ e = absurd (omega arith)
+    pairs-length (t ∷ₜ ts) (u ∷ₜ us) e = ap suc (pairs-length ts us (omega arith))
+
+    -- the arguments of an equal function go in front
+    module _ (f : ℕ) (ts us : Terms) (a b : Held) (ia : IsHeld (X .rules) a (app f ts)) (ib : IsHeld (X .rules) b (app f us)) (ga : Good (X .rules .functions) (n .cells) (app f ts)) (gb : Good (X .rules .functions) (n .cells) (app f us)) where
+      counts : count ts ≡ count us
+      counts = Option·some-injective _ _ (sym (ga .0) ∙ gb .0)
+
+      arity-is : byte (X .file) (2 * f + 1) ≡ count ts
+      arity-is = let (xs, bs, st, e) = held-app a f ts ia in arity-stands X st ∙ sym (count-insts (from (a .base .0)) xs) ∙ ap count (sym e)
+
+      longer-is : plus j (byte (X .file) (2 * f + 1)) ≡ length (pairs ts us ++ ps)
+      longer-is =
+          let c = few-arity f (count ts) (ga .0) in let l = at .few in let e = at .pairs .1 in let r = in-range-is (X .limits) (X .in-limits) in let q = r .few-work in
+          ap (plus j) arity-is ∙ plus-small j (count ts) (omega arith)
+          ∙ (let x = pairs-length ts us counts in let y = pairs-few w j ps (at .pairs .4) in omega (arith, length-append (pairs ts us) ps))
+
+      pushes : (xs ys : Terms) → byte (X .file) (2 * f + 1) ≡ count xs → plus j (byte (X .file) (2 * f + 1)) ≡ j + count xs → ts ≡ insts (from (a .base .0)) xs → us ≡ insts (from (b .base .0)) ys
+        → Pushed X w j (count xs) ps (pairs (insts (from (a .base .0)) xs) (insts (from (b .base .0)) ys)) (pushed (count xs) j (lay X) (past-kind a 3) (past-kind b 3) w) → j + count xs ≤ X .limits .work
+        → Comes (pushed (byte (X .file) (2 * f + 1)) j (lay X) (past-kind a 3) (past-kind b 3) w) (Same (m .trail) (plus j (byte (X .file) (2 * f + 1)))) (matching (X .rules) (X .limits) wanted room (pairs ts us ++ ps) n cs d)
+      pushes xs ys z t e g p₁ l =
+          let (run, next) = work-run (pushed (count xs) j (lay X) (past-kind a 3) (past-kind b 3) w) _ _ (j + count xs) (omega arith) (p₁ .keeps) in
+          rw (t, z, e, g) (goes (m .trail) (j + count xs) (pairs (insts (from (a .base .0)) xs) (insts (from (b .base .0)) ys) ++ ps) n (record { run = run; pairs = p₁ .pairs; few = l; next = next }) fair)
+
+      pushed-come : plus j (byte (X .file) (2 * f + 1)) ≤ X .limits .work
+        → Comes (pushed (byte (X .file) (2 * f + 1)) j (lay X) (past-kind a 3) (past-kind b 3) w) (Same (m .trail) (plus j (byte (X .file) (2 * f + 1)))) (matching (X .rules) (X .limits) wanted room (pairs ts us ++ ps) n cs d)
+      unfolding past-kind
+      pushed-come l =
+          let (xs, bs, st, e) = held-app a f ts ia in
+          let (ys, cs′, su, g) = held-app b f us ib in
+          let c = few-arity f (count ts) (ga .0) in
+          let q = at .few in let k = at .pairs .1 in
+          let r = in-range-is (X .limits) (X .in-limits) in let s = r .few-work in
+          let nx : count xs ≡ count ts = sym (ap count e ∙ count-insts (from (a .base .0)) xs) in
+          let ny : count ys ≡ count us = sym (ap count g ∙ count-insts (from (b .base .0)) ys) in
+          let z : byte (X .file) (2 * f + 1) ≡ count xs = arity-is ∙ sym nx in
+          let t : plus j (byte (X .file) (2 * f + 1)) ≡ j + count xs = ap (plus j) z ∙ plus-small j (count xs) (omega arith) in
+          let pa = place-few X (a .place .0) (app f xs) bs st in
+          let pb = place-few X (b .place .0) (app f ys) cs′ su in
+          let ha : ahead (a .place .0) 3 ≡ a .place .0 + 3 = ahead-small (a .place .0) 3 (omega arith) in
+          let hb : ahead (b .place .0) 3 ≡ b .place .0 + 3 = ahead-small (b .place .0) 3 (omega arith) in
+          let p₁ = pushed-pairs X xs ys w j (past-kind a 3) (past-kind b 3) ps (at .run .holds .base) (rw ha (of-term st)) (rw hb (of-term su)) (nx ∙ counts ∙ sym ny) (omega arith) (at .pairs .4) in
+          pushes xs ys z t e g p₁ (omega arith)
