@@ -262,41 +262,46 @@ module _ (X : Setting) where
 
     -- the words of the work region do not matter to the rest
     work-run : (v : List ℕ) (lo hi work : ℕ) → lay X .work ≤ lo → Keeps lo hi w v → Run X v (record { cells = m .cells; trail = m .trail; steps = m .steps; choice = m .choice; work = work; next = m .next; units = m .units }) n cs
-      × Onward X v (record { cells = m .cells; trail = m .trail; steps = m .steps; choice = m .choice; work = work; next = m .next; units = m .units }) (m .next) (n .goals)
+        × Onward X v (record { cells = m .cells; trail = m .trail; steps = m .steps; choice = m .choice; work = work; next = m .next; units = m .units }) (m .next) (n .goals)
     unfolding layout-of step-word
     work-run v lo hi work l k =
         let low : (i : ℕ) → i < lay X .work → word v i ≡ word w i = λ i h. k .same i (inl (omega arith)) in
         let tables : SameTables X w v = work-tables X w v lo hi l k in
-        let st : SameSteps X (m .steps) w v = steps-low v low in
-        (record {
-          holds = record {
-            base = base-same X w v tables (k .same-length) (at .run .holds .base);
-            store = store-same X w v (m .trail) (n .cells) s (λ y h. low _ (cells-low y h)) (λ i h. low _ (trail-low i h)) (good .store) (at .run .holds .store);
-            free = λ x h f. low _ (cells-low x h) ∙ at .run .holds .free x h f;
-            few = at .run .holds .few;
-            marks = λ x h. subst (λ (z : ℕ). z < suc (m .units)) (sym (low _ (marks-low x h))) (at .run .holds .marks x h);
-          };
-          cells = at .run .cells;
-          steps = steps-same X (m .steps) w v st (m .steps) (n .steps) (omega arith) (at .run .steps);
-          few-steps = at .run .few-steps;
-          choices = choices-same X w v tables (tables-room X) (m .steps) st (at .run .choice) (at .run .choices);
-          choice = at .run .choice;
-        },
-        record {
-          goals = goals-same X (m .steps) w v st (at .next .step) (at .next .goals);
-          step = at .next .step;
-          links = links-same X (m .steps) w v st (m .choice) (m .next .step) (at .run .choice) (at .next .step) (at .next .links);
-          settled = at .next .settled;
-        })
+        let st : SameSteps X (m .steps) w v = steps-low v low in (
+          record {
+            holds = record {
+              base = base-same X w v tables (k .same-length) (at .run .holds .base);
+              store = store-same X w v (m .trail) (n .cells) s (λ y h. low _ (cells-low y h)) (λ i h. low _ (trail-low i h)) (good .store) (at .run .holds .store);
+              free = λ x h f. low _ (cells-low x h) ∙ at .run .holds .free x h f;
+              few = at .run .holds .few;
+              marks = λ x h. subst (λ (z : ℕ). z < suc (m .units)) (sym (low _ (marks-low x h))) (at .run .holds .marks x h);
+            };
+            cells = at .run .cells;
+            steps = steps-same X (m .steps) w v st (m .steps) (n .steps) (omega arith) (at .run .steps);
+            few-steps = at .run .few-steps;
+            choices = choices-same X w v tables (tables-room X) (m .steps) st (at .run .choice) (at .run .choices);
+            choice = at .run .choice;
+          },
+          record {
+            goals = goals-same X (m .steps) w v st (at .next .step) (at .next .goals);
+            step = at .next .step;
+            links = links-same X (m .steps) w v st (m .choice) (m .next .step) (at .run .choice) (at .next .step) (at .next .links);
+            settled = at .next .settled;
+          },
+        )
       where
         trail-few : m .trail ≤ C
         trail-few = let b = store-bindings X w (m .trail) s (at .run .holds .store) in let c = bindings-few (X .rules .functions) (n .cells) s (good .sound) (good .store) in let f = at .run .holds .few in omega arith
+
         cells-low : (y : ℕ) → y < n .cells → lay X .cells + y < lay X .work
         cells-low y h = let f = at .run .holds .few in omega arith
+
         marks-low : (y : ℕ) → y < n .cells → lay X .marks + y < lay X .work
         marks-low y h = let f = at .run .holds .few in omega arith
+
         trail-low : (i : ℕ) → i < m .trail → lay X .trail + i < lay X .work
         trail-low i h = let f = trail-few in omega arith
+
         steps-low : (v : List ℕ) → ((i : ℕ) → i < lay X .work → word v i ≡ word w i) → SameSteps X (m .steps) w v
         steps-low v low zero q h = refl
         steps-low v low (suc i) q h = let r = mod-lt q {m = 8} (omega arith) in let f = at .run .few-steps in low _ (omega arith)
@@ -325,14 +330,14 @@ module _ (X : Setting) where
           ∙ (let x = pairs-length ts us counts in let y = pairs-few w j ps (at .pairs .4) in omega (arith, length-append (pairs ts us) ps))
 
       pushes : (xs ys : Terms) → byte (X .file) (2 * f + 1) ≡ count xs → plus j (byte (X .file) (2 * f + 1)) ≡ j + count xs → ts ≡ insts (from (a .base .0)) xs → us ≡ insts (from (b .base .0)) ys
-        → Pushed X w j (count xs) ps (pairs (insts (from (a .base .0)) xs) (insts (from (b .base .0)) ys)) (pushed (count xs) j (lay X) (past-kind a 3) (past-kind b 3) w) → j + count xs ≤ X .limits .work
-        → Comes (pushed (byte (X .file) (2 * f + 1)) j (lay X) (past-kind a 3) (past-kind b 3) w) (Same (m .trail) (plus j (byte (X .file) (2 * f + 1)))) (matching (X .rules) (X .limits) wanted room (pairs ts us ++ ps) n cs d)
+          → Pushed X w j (count xs) ps (pairs (insts (from (a .base .0)) xs) (insts (from (b .base .0)) ys)) (pushed (count xs) j (lay X) (past-kind a 3) (past-kind b 3) w) → j + count xs ≤ X .limits .work
+          → Comes (pushed (byte (X .file) (2 * f + 1)) j (lay X) (past-kind a 3) (past-kind b 3) w) (Same (m .trail) (plus j (byte (X .file) (2 * f + 1)))) (matching (X .rules) (X .limits) wanted room (pairs ts us ++ ps) n cs d)
       pushes xs ys z t e g p₁ l =
           let (run, next) = work-run (pushed (count xs) j (lay X) (past-kind a 3) (past-kind b 3) w) _ _ (j + count xs) (omega arith) (p₁ .keeps) in
           rw (t, z, e, g) (goes (m .trail) (j + count xs) (pairs (insts (from (a .base .0)) xs) (insts (from (b .base .0)) ys) ++ ps) n (record { run = run; pairs = p₁ .pairs; few = l; next = next }) fair)
 
       pushed-come : plus j (byte (X .file) (2 * f + 1)) ≤ X .limits .work
-        → Comes (pushed (byte (X .file) (2 * f + 1)) j (lay X) (past-kind a 3) (past-kind b 3) w) (Same (m .trail) (plus j (byte (X .file) (2 * f + 1)))) (matching (X .rules) (X .limits) wanted room (pairs ts us ++ ps) n cs d)
+          → Comes (pushed (byte (X .file) (2 * f + 1)) j (lay X) (past-kind a 3) (past-kind b 3) w) (Same (m .trail) (plus j (byte (X .file) (2 * f + 1)))) (matching (X .rules) (X .limits) wanted room (pairs ts us ++ ps) n cs d)
       unfolding past-kind
       pushed-come l =
           let (xs, bs, st, e) = held-app a f ts ia in

@@ -1,0 +1,86 @@
+-- What a run does, word for word: each move as the search defines it, each answer as the answers do.
+-- Assumes nothing.
+use Prim.Native.Nat.{ℕ, _+_, _≤_, _<_}
+use mathlib.Core.Path.{_≡_}
+use mathlib.Core.Bool.{Bool, true, false}
+use mathlib.Core.List.{List, _++_}
+use lib.ListN.{length, take, drop}
+use Rattle.meaning.specs.Reading.{byte}
+use Rattle.meaning.specs.declared.End.{End}
+use Rattle.meaning.specs.declared.End.the-variants.{NoMore, Wanted, Budget, Work, Output}
+use Rattle.meaning.specs.declared.Totals.{Totals}
+use Rattle.meaning.specs.declared.Outcome.{Outcome}
+use Rattle.meaning.specs.declared.Outcome.the-variants.{Ended}
+use Rattle.words.specs.Words.{plus, ahead}
+use Rattle.search.specs.Search.{Backs, TriesHead, MovesPair, MovesCut, Starts}
+use Rattle.search.specs.declared.Given.{Given}
+use Rattle.search.specs.declared.Regs.{Regs}
+use Rattle.search.specs.declared.Trial.{Trial}
+use Rattle.search.specs.declared.Due.{Due}
+use Rattle.search.specs.declared.Due.the-variants.{Try, Pair, Cut, Answer, Over}
+use Rattle.answers.specs.Answering.{Answers}
+use Rattle.answers.specs.declared.Wrote.{Wrote}
+use Rattle.answers.specs.declared.Wrote.the-variants.{Bytes, Full, Crowded}
+use Rattle.machine.specs.declared.run.Written.{Written}
+
+unfoldable pub spent : Regs → Regs
+spent m = record { cells = m .cells; trail = m .trail; steps = m .steps; choice = m .choice; work = m .work; next = m .next; units = plus (m .units) 1 }
+
+unfoldable pub behind-of : Written → ℕ → Written
+behind-of t size = record { answers = plus (t .answers) 1; bytes = ahead (t .bytes) size }
+
+unfoldable pub going-on : Due → Bool
+going-on (Over e m) = false
+going-on (Try x m) = true
+going-on (Pair m) = true
+going-on (Cut m) = true
+going-on (Answer m) = true
+
+unfoldable pub over-of : End → Regs → Written → Outcome
+over-of e m t = Ended e (record { answers = t .answers; units = m .units; bytes = t .bytes })
+
+unfoldable pub ended-of : Due → Written → Outcome
+ended-of (Over e m) t = over-of e m t
+ended-of (Try x m) t = over-of Budget m t
+ended-of (Pair m) t = over-of Budget m t
+ended-of (Cut m) t = over-of Budget m t
+ended-of (Answer m) t = over-of Budget m t
+
+-- an answer is written into the output behind the bytes used
+pub data WritesBehind (file : List ℕ) (g : Given) (m : Regs) (used : ℕ) (w o : List ℕ) : Wrote → List ℕ → List ℕ → Type 0 where
+  written-behind : {r : Wrote} {v p : List ℕ} → Answers file (g .lay) (g .limits .work) (byte file (g .query .0 + 1)) (m .cells) (m .steps) (m .trail) w (drop used o) r v p
+      → WritesBehind file g m used w o r v (take used o ++ p)
+
+-- an answer that is due: it is written, or it stops the run
+pub data Lists (file : List ℕ) (g : Given) (wanted : ℕ) (m : Regs) (t : Written) (w o : List ℕ) : Due → Written → List ℕ → List ℕ → Type 0 where
+  no-output : length o < t .bytes → Lists file g wanted m t w o (Over Output m) t w o
+  last-wanted : {n : ℕ} {v p : List ℕ} → t .bytes ≤ length o → WritesBehind file g m (t .bytes) w o (Bytes n) v p → behind-of t n .answers ≡ wanted
+      → Lists file g wanted m t w o (Over Wanted m) (behind-of t n) v p
+  goes-back : {n : ℕ} {d : Due} {v p u : List ℕ} → t .bytes ≤ length o → WritesBehind file g m (t .bytes) w o (Bytes n) v p → (behind-of t n .answers ≡ wanted → ⊥)
+      → Backs (g .lay) m (m .trail) (m .choice) v d u → Lists file g wanted m t w o d (behind-of t n) u p
+  full : {v p : List ℕ} → t .bytes ≤ length o → WritesBehind file g m (t .bytes) w o Full v p → Lists file g wanted m t w o (Over Output m) t v p
+  crowded : {v p : List ℕ} → t .bytes ≤ length o → WritesBehind file g m (t .bytes) w o Crowded v p → Lists file g wanted m t w o (Over Work m) t v p
+
+-- what is due is done: a move where a unit is left for it, or an answer
+pub data Moves (file : List ℕ) (g : Given) (budget wanted : ℕ) : Due → Written → List ℕ → List ℕ → Due → Written → List ℕ → List ℕ → Type 0 where
+  try-late : {x : Trial} {m : Regs} {t : Written} {w o : List ℕ} → budget ≤ m .units → Moves file g budget wanted (Try x m) t w o (Over Budget m) t w o
+  pair-late : {m : Regs} {t : Written} {w o : List ℕ} → budget ≤ m .units → Moves file g budget wanted (Pair m) t w o (Over Budget m) t w o
+  cut-late : {m : Regs} {t : Written} {w o : List ℕ} → budget ≤ m .units → Moves file g budget wanted (Cut m) t w o (Over Budget m) t w o
+  tries-one : {x : Trial} {m : Regs} {t : Written} {d : Due} {w o v : List ℕ} → m .units < budget → TriesHead file g x (spent m) w d v → Moves file g budget wanted (Try x m) t w o d t v o
+  pairs-one : {m : Regs} {t : Written} {d : Due} {w o v : List ℕ} → m .units < budget → MovesPair file g (spent m) w d v → Moves file g budget wanted (Pair m) t w o d t v o
+  cuts-one : {m : Regs} {t : Written} {d : Due} {w o v : List ℕ} → m .units < budget → MovesCut file (g .lay) (spent m) w d v → Moves file g budget wanted (Cut m) t w o d t v o
+  lists : {m : Regs} {t s : Written} {d : Due} {w o v p : List ℕ} → Lists file g wanted m t w o d s v p → Moves file g budget wanted (Answer m) t w o d s v p
+  is-over : {e : End} {m : Regs} {t : Written} {w o : List ℕ} → Moves file g budget wanted (Over e m) t w o (Over e m) t w o
+
+-- from what is due to the end
+pub data RunsFrom (file : List ℕ) (g : Given) (budget wanted : ℕ) : Due → Written → List ℕ → List ℕ → Outcome → List ℕ → List ℕ → Type 0 where
+  stops : {d : Due} {t : Written} {w o : List ℕ} → going-on d ≡ false → RunsFrom file g budget wanted d t w o (ended-of d t) w o
+  onward : {d n : Due} {t s : Written} {w o v p u q : List ℕ} {r : Outcome} → going-on d ≡ true → Moves file g budget wanted d t w o n s v p
+      → RunsFrom file g budget wanted n s v p r u q → RunsFrom file g budget wanted d t w o r u q
+
+abbrev pub nothing-yet : Written
+nothing-yet = record { answers = 0; bytes = 0 }
+
+-- a whole run
+pub data Runs (file : List ℕ) (g : Given) (budget wanted : ℕ) (w o : List ℕ) : Outcome → List ℕ → List ℕ → Type 0 where
+  runs : {d : Due} {v u q : List ℕ} {r : Outcome} → Starts file g wanted w d v → RunsFrom file g budget wanted d nothing-yet v o r u q → Runs file g budget wanted w o r u q
