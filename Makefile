@@ -1,10 +1,25 @@
-# make: prove what stands so far and show the second program on case A; make test: the gate.
-.PHONY: all test
+# make: prove and build the library and show the main job; make test: the gate;
+# make bench: the library beside the second program, on many more files and by time.
+.PHONY: all lib test bench
 
-all:
-	rt check
+CFLAGS = -std=c99 -O2 -Wall -Wextra -pedantic -Werror
+
+all: lib
 	cd host && cargo build --release --offline
 	host/target/release/second < examples/append.rules | head -n 1
+	$(CC) $(CFLAGS) -Iinclude examples/check.c build/libpegplanet.a -o build/check
+	build/check < examples/append.rules
+
+# build/ is apart from target/, which the gate removes; an archive that has not changed keeps its date
+lib:
+	rt staticlib embedded
+	mkdir -p build
+	cmp -s target/staticlib/libembedded.a build/libpegplanet.a || cp target/staticlib/libembedded.a build/libpegplanet.a
 
 test:
 	bash .ci/run
+
+bench: lib
+	cd host/agreement && cargo build --release --offline
+	host/agreement/target/release/agreement 200000
+	host/agreement/target/release/bench_reading

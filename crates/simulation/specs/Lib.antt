@@ -18,3 +18,9 @@ pub mod Entering
 pub mod Trying
 pub mod Packing
 pub mod Taking
+pub mod Numbers
+pub mod Pieces
+pub mod Asides
+pub mod Dues
+pub mod Walks
+pub mod Answering
