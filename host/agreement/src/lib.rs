@@ -1,13 +1,15 @@
 //! The library beside the second program.
 //!
-//! The library is proved code behind a C function; the second program is
-//! ordinary Rust, written from document 01 alone. Here both get the same files,
-//! and must say the same:
+//! The library is proved code behind C functions; the second program is
+//! ordinary Rust, written from document 01 alone. Here both get the same files
+//! and calls, and must say the same:
 //!
-//! - `library`: the library's function, behind a safe one;
+//! - `library`: the library's functions, behind safe ones;
 //! - `files`: files from seeds, and long files of several kinds;
-//! - `compare`: both on one file, and on many.
+//! - `compare`: both on one file, and on many;
+//! - `calls`: calls from seeds and at thresholds, and both on one call.
 
+pub mod calls;
 pub mod compare;
 pub mod files;
 pub mod library;

@@ -1,0 +1,97 @@
+//! The time of a whole call, by the library and by the second program, for
+//! several example programs.
+
+use std::hint::black_box;
+use std::time::Instant;
+
+use agreement::calls::{told, Both, Call};
+use agreement::library;
+use second::assemble::file;
+use second::call::{Limits, Memory, Outcome};
+use second::examples::*;
+use second::generate::Case;
+
+const LIMITS: Limits = Limits {
+    cells: 4_000,
+    steps: 600,
+    work: 100,
+};
+const ROOM: usize = 60_000;
+const ROUNDS: usize = 40;
+/// The least time of a round, in seconds.
+const ROUND: f64 = 0.005;
+
+/// The time of one call in microseconds, over so many.
+fn time(calls: usize, mut call: impl FnMut()) -> f64 {
+    let start = Instant::now();
+    (0..calls).for_each(|_| call());
+    start.elapsed().as_secs_f64() * 1e6 / calls as f64
+}
+
+/// The least times of the library and of the second program, in turn.
+fn least(case: &Case) -> (f64, f64) {
+    let mut scratch = vec![0; case.scratch_len];
+    let mut out = vec![0; case.room];
+    let mut result = [0; 12];
+    let mut memory = Memory::default();
+    let (limits, budget, wanted) = (case.limits, case.budget, case.wanted);
+    let mut least = (f64::INFINITY, f64::INFINITY);
+    let mut calls = 1;
+    for _ in 0..ROUNDS {
+        let library = time(calls, || {
+            let file = black_box(&case.file);
+            let (scratch, out) = (&mut scratch, &mut out);
+            library::call(file, limits, budget, wanted, scratch, out, &mut result);
+            black_box(&result);
+        });
+        let second = time(calls, || {
+            let file = black_box(&case.file);
+            let (scratch, out) = (&mut scratch, &mut out);
+            black_box(memory.call(file, limits, budget, wanted, scratch, out));
+        });
+        least = (least.0.min(library), least.1.min(second));
+        calls = (1 + (ROUND * 1e6 / library.min(second)) as usize).min(1_000);
+    }
+    least
+}
+
+fn main() {
+    // Each with the answers it has; the second looks for more without end.
+    let programs = [
+        ("naive reverse of 30", naive_reverse(30), 1),
+        ("split 12 in three", split_in_three(12), 13 * 14 / 2),
+        ("permutations of 5", permutations(5), 120),
+        ("2 to the power of 7", powers_of_two(7), 1),
+        ("bars of 6 quarters", bars(6), 169),
+        ("shared values", shared(8), 1),
+    ];
+    println!(
+        "program                units answers  library us  ns a unit  second us  library / second"
+    );
+    for (name, text, wanted) in programs {
+        let file = file(&text);
+        let case = Case {
+            scratch_len: LIMITS.scratch(file.len()),
+            file,
+            limits: LIMITS,
+            budget: 200_000,
+            wanted,
+            room: ROOM,
+        };
+        let outcome = match Both::default().agreed(&Call::new(case.clone())) {
+            Ok(outcome) => outcome,
+            Err(difference) => panic!("{name}: {difference}"),
+        };
+        assert!(
+            matches!(outcome, Outcome::Ended { end: 21, .. }),
+            "{name}: {outcome:?}"
+        );
+        let [_, _, answers, units, ..] = told(&outcome);
+        let (library, second) = least(&case);
+        let unit = library * 1e3 / units as f64;
+        let ratio = library / second;
+        println!(
+            "{name:20} {units:7} {answers:7} {library:11.1} {unit:10.2} {second:10.1} {ratio:10.2}"
+        );
+    }
+}

@@ -1,0 +1,410 @@
+//! Calls of the library: document 01's figures, and agreement with the second
+//! program on many calls.
+
+use agreement::calls::{compare, from_seed, thresholds, Both, Call, Tally};
+use agreement::library::{call, run};
+use second::assemble::file;
+use second::call::{Limits, Outcome};
+use second::damage::length;
+use second::examples::naive_reverse;
+use second::generate::{good_program, Case};
+use second::random::Random;
+use second::random_programs::wide_and_deep;
+
+const APPEND: &[u8] = include_bytes!("../../../examples/append.rules");
+
+/// Case A, as document 01 has it.
+const A: &str = "01 00 01 02 01 00 02 03 03 00 00 01 00 05 00 00 04 00 04 00 03 00 00 04 01
+    05 00 01 04 00 04 01 04 02 05 00 01 04 00 04 03 06 00 00 04 01 04 02 04 03 08 02 01
+    06 00 00 04 00 04 01 05 00 01 05 00 02 05 00 00 09";
+const A_ANSWERS: &str = "0A 00 00 00 01 05 00 00 05 00 01 05 00 02 05 00 00 0C 00 00 0D
+    0A 00 00 00 02 05 00 01 05 00 02 05 00 00 05 00 00 0C 00 01 0C 00 00 0D";
+
+/// Bytes from their two-digit form.
+fn bytes(text: &str) -> Vec<u8> {
+    let byte = |word| u8::from_str_radix(word, 16).expect("two digits");
+    text.split_whitespace().map(byte).collect()
+}
+
+/// What a call needs beside its file.
+#[derive(Clone, Copy)]
+struct Settings {
+    limits: Limits,
+    budget: u32,
+    wanted: u32,
+    room: usize,
+}
+
+/// Settings that no small case reaches.
+const AMPLE: Settings = Settings {
+    limits: Limits {
+        cells: 500,
+        steps: 300,
+        work: 100,
+    },
+    budget: 10_000,
+    wanted: 1_000,
+    room: 10_000,
+};
+
+/// End or refusal, place, answers and units of a library call, and the bytes
+/// it wrote.
+fn library(file: &[u8], settings: Settings) -> ([u64; 4], Vec<u8>) {
+    let mut scratch = vec![0xABCD_1234; settings.limits.scratch(file.len())];
+    let mut out = vec![0x5A; settings.room];
+    let mut result = [7; 12];
+    call(
+        file,
+        settings.limits,
+        settings.budget,
+        settings.wanted,
+        &mut scratch,
+        &mut out,
+        &mut result,
+    );
+    let [number, place, answers, units, written, ..] = result;
+    assert_eq!(result[5..], [0; 7]);
+    let rest = out.split_off(written as usize);
+    assert!(rest.iter().all(|&byte| byte == 0x5A));
+    ([number, place, answers, units], out)
+}
+
+/// An end, after so many of the two answers of case A.
+fn a(settings: Settings, end: u64, answers: usize, units: u64) {
+    let (result, out) = library(APPEND, settings);
+    assert_eq!(result, [end, 0, answers as u64, units]);
+    assert_eq!(out, bytes(A_ANSWERS)[..[0, 21, 45][answers]]);
+}
+
+#[test]
+fn append_with_ample_limits() {
+    assert_eq!(APPEND, bytes(A));
+    a(AMPLE, 20, 2, 18);
+}
+
+#[test]
+fn append_with_budgets() {
+    // Whatever the budget, none of it is left at end 22.
+    let budget = |budget| Settings { budget, ..AMPLE };
+    a(budget(18), 20, 2, 18);
+    a(budget(17), 22, 2, 17);
+    a(budget(14), 22, 2, 14);
+    a(budget(13), 22, 1, 13);
+    a(budget(4), 22, 1, 4);
+    a(budget(3), 22, 0, 3);
+}
+
+#[test]
+fn append_with_few_cells_steps_and_bytes() {
+    let cells = |cells| Settings {
+        limits: Limits {
+            cells,
+            ..AMPLE.limits
+        },
+        ..AMPLE
+    };
+    a(cells(10), 20, 2, 18);
+    a(cells(9), 23, 2, 15);
+    a(cells(1), 23, 0, 0);
+    let steps = |steps| Settings {
+        limits: Limits {
+            steps,
+            ..AMPLE.limits
+        },
+        ..AMPLE
+    };
+    a(steps(2), 20, 2, 18);
+    a(steps(1), 24, 1, 11);
+    let room = |room| Settings { room, ..AMPLE };
+    a(room(45), 20, 2, 18);
+    a(room(44), 26, 1, 14);
+    a(room(21), 26, 1, 14);
+    a(room(20), 26, 0, 4);
+}
+
+/// The steps of each answer.
+fn steps(out: &[u8]) -> Vec<Vec<u8>> {
+    let mut all = Vec::new();
+    for place in second::damage::places(out) {
+        match out[place] {
+            0x0A => all.push(Vec::new()),
+            0x0C => all.last_mut().expect("an answer").push(out[place + 2]),
+            _ => (),
+        }
+    }
+    all
+}
+
+#[test]
+fn the_other_programs_run_by_hand() {
+    let ample = |text: &str| {
+        let (result, out) = library(&file(text), AMPLE);
+        assert_eq!(result[..2], [20, 0]);
+        let steps = steps(&out);
+        assert_eq!(result[2], steps.len() as u64);
+        (steps, result[3], out)
+    };
+    let (b, units, _) = ample("p :- a1, a2. a1 :- b. a1. a2. ?- p.");
+    assert_eq!((b, units), (vec![vec![0, 2, 3]], 4));
+    let (c, _, out) = ample("q(a,b). q(Z,c) :- r(Z). r(c). ?- q(X,Y).");
+    assert_eq!(c, [vec![0], vec![1, 2]]);
+    let values = "0A 00 00 00 01 05 00 00 05 00 01 0C 00 00 0D
+        0A 00 00 00 02 05 00 02 05 00 02 0C 00 01 0C 00 02 0D";
+    assert_eq!(out, bytes(values));
+    let (d, units, _) = ample("eq(V,V). ?- eq(X,f(X)).");
+    assert_eq!((d, units), (vec![], 3));
+    let (e, units, _) = ample("a(X) :- b(X), !. a(two). b(one). b(two). ?- a(X).");
+    assert_eq!((e, units), (vec![vec![0, 2]], 5));
+    let (e, units, _) = ample("a(X) :- b(X). a(two). b(one). b(two). ?- a(X).");
+    assert_eq!((e, units), (vec![vec![0, 2], vec![0, 3], vec![1]], 8));
+}
+
+#[test]
+fn a_query_of_no_goals() {
+    let empty = bytes("08 00 00 09");
+    let answer = bytes("0A 00 00 00 00 0D");
+    let wanted = |wanted| library(&empty, Settings { wanted, ..AMPLE });
+    assert_eq!(wanted(2), ([20, 0, 1, 0], answer.clone()));
+    assert_eq!(wanted(1), ([21, 0, 1, 0], answer));
+    assert_eq!(wanted(0), ([21, 0, 0, 0], vec![]));
+}
+
+#[test]
+fn refusals_before_and_in_the_file() {
+    let limits = |cells, steps, work| Settings {
+        limits: Limits { cells, steps, work },
+        ..AMPLE
+    };
+    let refused = |number, place| ([number, place, 0, 0], vec![]);
+    for bad in [limits(0, 9, 9), limits(9, 60_001, 9), limits(9, 9, 7)] {
+        assert_eq!(library(APPEND, bad), refused(1, 0));
+    }
+    assert_eq!(library(&[9; 60_001], AMPLE), refused(2, 0));
+    assert_eq!(library(&[9; 60_000], AMPLE), refused(5, 0));
+    assert_eq!(library(&APPEND[..69], AMPLE), refused(4, 69));
+    let longer = [APPEND, &[9]].concat();
+    assert_eq!(library(&longer, AMPLE), refused(9, 70));
+}
+
+#[test]
+fn naive_reverse_of_thirty() {
+    let reverse = file(&naive_reverse(30));
+    // The list stands before the query's variable and the end record: for each
+    // element a cons and the element itself, and then nil.
+    let list = &reverse[reverse.len() - 3 - (30 * 6 + 3)..reverse.len() - 3];
+    // The clauses in file order are both of append, then both of reverse.
+    let mut steps = vec![3; 30];
+    steps.push(2);
+    for length in 0..30 {
+        steps.extend(vec![1; length]);
+        steps.push(0);
+    }
+    assert_eq!(steps.len(), 496);
+    let mut answer = vec![0x0A, 0, 0, (496 >> 8) as u8, (496 & 255) as u8];
+    for element in list[..180].chunks(6).rev() {
+        answer.extend(element);
+    }
+    answer.extend(&list[180..]);
+    answer.extend(steps.iter().flat_map(|&clause| [0x0C, 0, clause]));
+    answer.push(0x0D);
+    let large = Settings {
+        limits: Limits {
+            cells: 4_000,
+            steps: 496,
+            work: 100,
+        },
+        ..AMPLE
+    };
+    let ([end, _, answers, _], out) = library(&reverse, large);
+    assert_eq!((end, answers), (20, 1));
+    assert_eq!(out, answer);
+    // With one step less there is no answer.
+    let limits = Limits {
+        steps: 495,
+        ..large.limits
+    };
+    let ([end, _, answers, _], out) = library(&reverse, Settings { limits, ..large });
+    assert_eq!((end, answers, out), (24, 0, vec![]));
+}
+
+#[test]
+fn twenty_thousand_calls() {
+    let tally = compare(from_seed(0).take(20_000)).expect("no difference");
+    assert_eq!(tally.calls(), 20_000);
+    for number in (1..=9).chain(20..=26) {
+        assert!(tally.by_number[number] >= 20, "{number}: {tally:?}");
+    }
+}
+
+#[test]
+fn good_files_at_all_thresholds() {
+    let mut random = Random::new(20_000);
+    let mut both = Both::default();
+    let mut tally = Tally::default();
+    for _ in 0..600 {
+        let file = match random.percent(20) {
+            true => wide_and_deep(&mut random, 20),
+            false => good_program(&mut random),
+        };
+        let budget = *random.one_of(&[50, 500, 2_000]);
+        let wanted = *random.one_of(&[1, 3, 1_000]);
+        for call in thresholds(&file.bytes(), budget, wanted) {
+            let agreed = both.agreed(&call);
+            tally.add(&agreed.unwrap_or_else(|difference| panic!("{difference}: {call:?}")));
+        }
+    }
+    for number in 20..=26 {
+        assert!(tally.by_number[number] >= 100, "{number}: {tally:?}");
+    }
+}
+
+#[test]
+fn every_length_of_scratch_output_and_result_near_what_is_needed() {
+    let limits = Limits {
+        cells: 10,
+        steps: 2,
+        work: 8,
+    };
+    let needed = 64 + 2 * 70 + 4 * 10 + 8 * 2 + 4 * 8;
+    let mut both = Both::default();
+    for scratch_len in [0, 1, needed - 1, needed, needed + 1, needed + 100] {
+        for room in [0, 20, 21, 44, 45, 46, 100] {
+            for words in 0..=14 {
+                let case = Case {
+                    file: APPEND.to_vec(),
+                    limits,
+                    budget: 18,
+                    wanted: 3,
+                    scratch_len,
+                    room,
+                };
+                let call = Call {
+                    words,
+                    ..Call::new(case)
+                };
+                let due = match (scratch_len < needed, room) {
+                    (true, _) => (3, 0),
+                    (_, ..=20) => (26, 0),
+                    (_, ..=44) => (26, 21),
+                    _ => (20, 45),
+                };
+                let found = match both.agreed(&call).expect("no difference") {
+                    Outcome::Refused { number, .. } => (number, 0),
+                    Outcome::Ended { end, bytes, .. } => (end, bytes),
+                };
+                assert_eq!(found, due, "{call:?}");
+            }
+        }
+    }
+}
+
+#[test]
+fn a_call_twice_and_with_other_contents_of_its_buffers() {
+    let mut both = Both::default();
+    for (seed, mut call) in from_seed(30_000).take(2_000) {
+        let mut said = Vec::new();
+        for pattern in [call.pattern, call.pattern, !call.pattern] {
+            call.pattern = pattern;
+            said.push(both.agreed(&call).expect("no difference"));
+        }
+        assert!(said[0] == said[1] && said[1] == said[2], "{seed}: {said:?}");
+    }
+}
+
+#[test]
+fn calls_from_several_threads_at_once() {
+    let thread = |first| {
+        std::thread::spawn(move || compare(from_seed(first).take(1_000)).expect("no difference"))
+    };
+    for thread in [40_000, 50_000, 60_000, 70_000].map(thread) {
+        let tally = thread.join().expect("the thread ends");
+        assert_eq!(tally.calls(), 1_000);
+    }
+}
+
+#[test]
+fn append_in_the_embedded_form() {
+    let mut out = [0x5A; 50];
+    assert_eq!(run(APPEND, 1_000, 1_000, &mut out), 20 << 32 | 45);
+    assert_eq!(out[..45], bytes(A_ANSWERS));
+    assert_eq!(out[45..], [0x5A; 5]);
+    assert_eq!(run(APPEND, 18, 1, &mut out), 21 << 32 | 21);
+    assert_eq!(run(APPEND, 3, 9, &mut out), 22 << 32);
+    assert_eq!(run(APPEND, 18, 9, &mut out[..44]), 26 << 32 | 21);
+    assert_eq!(run(APPEND, 18, 9, &mut []), 26 << 32);
+    assert_eq!(run(&APPEND[..69], 18, 9, &mut out), 4 << 32 | 69);
+    assert_eq!(run(&[], 0, 0, &mut []), 4 << 32);
+}
+
+#[test]
+fn the_embedded_form_takes_files_up_to_4000_bytes() {
+    let mut both = Both::default();
+    for (bytes, number) in [(3_999, None), (4_000, None), (4_001, Some(2 << 32))] {
+        let file = length(bytes);
+        assert_eq!(file.len(), bytes);
+        let said = both.agreed_embedded(&file, 5_000, 9, 1_000);
+        let said = said.expect("no difference");
+        match number {
+            Some(number) => assert_eq!(said, number),
+            None => assert!(said >> 32 >= 20, "{said:016X}"),
+        }
+    }
+}
+
+#[test]
+fn the_embedded_form_agrees() {
+    let mut both = Both::default();
+    let mut by_number = [0; 27];
+    for (seed, call) in from_seed(80_000).take(5_000) {
+        let case = call.case;
+        for _ in 0..2 {
+            let agreed = both.agreed_embedded(&case.file, case.budget, case.wanted, case.room);
+            let said = agreed.unwrap_or_else(|difference| panic!("{seed}: {difference}"));
+            by_number[(said >> 32) as usize] += 1;
+        }
+    }
+    for number in [2, 4, 5, 6, 7, 9, 20, 21, 22, 26] {
+        assert!(by_number[number] >= 20, "{number}: {by_number:?}");
+    }
+}
+
+#[test]
+fn the_embedded_form_has_400_steps() {
+    // The answer with so many steps has as many nodes in its value.
+    let bytes: u64 = (1..=400).map(|steps| 6 + 3 * steps + 3 * steps).sum();
+    let numbers = file("nat(z). nat(s(N)) :- nat(N). ?- nat(X).");
+    let mut out = vec![0; 600_000];
+    let most = 1_000_000;
+    assert_eq!(run(&numbers, most, 400, &mut out), 21 << 32 | bytes);
+    assert_eq!(run(&numbers, most, 401, &mut out), 24 << 32 | bytes);
+}
+
+#[test]
+fn the_embedded_form_has_1000_cells() {
+    // Each fact takes 8 cells, and there are 8 times 15 and 5 of them.
+    let fact = |first| format!("f({first},a,a,a,a,a,a,a)");
+    let query = |first| {
+        let h = vec![fact("a"); 15].join(",");
+        let rest = [vec!["h".to_string(); 8], vec![fact("a"); 4]].concat();
+        let rest = rest.join(",");
+        let clauses = format!("f(A,B,C,D,E,F,G,H). h :- {h}.");
+        file(&format!("{clauses} ?- {},{rest}.", fact(first)))
+    };
+    // An answer of 133 steps, and one variable of the query more.
+    let mut out = [0; 1_000];
+    let ended = 20 << 32 | (6 + 3 * 133);
+    assert_eq!(run(&query("a"), 10_000, 9, &mut out), ended);
+    assert_eq!(run(&query("X"), 10_000, 9, &mut out), 23 << 32);
+}
+
+#[test]
+fn the_embedded_form_has_room_for_200_pairs() {
+    // Each of the 28 nodes takes one pair from the front and puts 8 there.
+    let value = format!("{}a{}", "g(".repeat(28), ",a,a,a,a,a,a,a)".repeat(28));
+    let fact = |others| file(&format!("p({value}{others}). ?- p({value}{others})."));
+    let mut out = [0; 1_000];
+    // Three arguments more make 200 pairs in all, four make 201.
+    let ended = 20 << 32 | (6 + 3);
+    assert_eq!(run(&fact(",a,a,a"), 10_000, 9, &mut out), ended);
+    assert_eq!(run(&fact(",a,a,a,a"), 10_000, 9, &mut out), 25 << 32);
+}
