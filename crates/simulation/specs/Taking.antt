@@ -29,7 +29,7 @@ use Rattle.demands.specs.WellLaws.{Good, GoodStore, GoodPairs, follow-good}
 use Rattle.demands.specs.Ways.{GoodAt}
 use Rattle.layout.specs.Regions.{word, Keeps}
 use Rattle.words.specs.Words.{plus, ahead}
-use Rattle.cells.specs.Cells.{cell-at, cell-of, word-of, Inside}
+use Rattle.cells.specs.Cells.{cell-at, cell-of, word-of, followed, Inside}
 use Rattle.cells.specs.declared.Held.{Held}
 use Rattle.cells.specs.declared.Cell.the-variants.{Bound}
 use Rattle.cells.specs.declared.Found.{Found}
@@ -37,9 +37,10 @@ use Rattle.cells.specs.declared.Found.the-variants.{Unbound, Function}
 use Rattle.matching.specs.Matching.{held-at, past-kind, pushed, BindChecked, is-inside, binds, Functions, unequal, crowded, equal, front-of, Compares, one-variable, head-variable, head-free, goal-free, both-applied, TakesPair, no-pair, front}
 use Rattle.matching.specs.declared.Pairing.{Pairing}
 use Rattle.matching.specs.declared.Pairing.the-variants.{Same, Differ, Over}
-use Rattle.search.specs.Search.{step-word, MovesPair, same, differ, over-work}
+use Rattle.search.specs.Search.{step-word, Backs, MatchesOn, MovesPair, same, differ, over-work}
 use Rattle.search.specs.declared.Regs.{Regs}
 use Rattle.search.specs.declared.Due.{Due}
+use Rattle.search.specs.declared.Due.the-variants.{Over as Over·due}
 use Rattle.simulation.specs.Places.{TermsAt, of-term, IsHeld}
 use Rattle.simulation.specs.PlaceLaws.{arity-stands}
 use Rattle.simulation.specs.Rep.{Setting, lay, layout-of, Base, StoreIs, FreeIs, MarksAre, PairsAre, ChoicesAre, Older, now, since, bindings}
@@ -355,3 +356,79 @@ module _ (X : Setting) where
           let hb : ahead (b .place .0) 3 ≡ b .place .0 + 3 = ahead-small (b .place .0) 3 (omega arith) in
           let p₁ = pushed-pairs X xs ys w j (past-kind a 3) (past-kind b 3) ps (at .run .holds .base) (rw ha (of-term st)) (rw hb (of-term su)) (nx ∙ counts ∙ sym ny) (omega arith) (at .pairs .4) in
           pushes xs ys z t e g p₁ (omega arith)
+
+    functions-come : (f e : ℕ) (ts us : Terms) (a b : Held) → IsHeld (X .rules) a (app f ts) → IsHeld (X .rules) b (app e us) → Good (X .rules .functions) (n .cells) (app f ts) → Good (X .rules .functions) (n .cells) (app e us) → {c : Pairing} {v : List ℕ}
+        → Functions (X .file) (lay X) (X .limits .work) (m .trail) j f e a b w c v → Comes v c (compared (X .rules) (X .limits) wanted room (app f ts) (app e us) ps n cs d)
+    unfolding compared
+    functions-come f e ts us a b ia ib ga gb (unequal q) = subst (Comes w Differ) (sym (if-true _ _ _ (ap not (ne-eqb f e q)))) unchanged-fails
+    functions-come f e ts us a b ia ib ga gb (crowded q l) =
+        let z = longer-is f ts us a b ia (rw (← q) at ib) ga (rw (← q) at gb) in
+        subst (Comes w Over) (sym (if-false _ _ _ (ap not (eq-eqb f e q)) ∙ if-true _ _ _ (lt-ltb (X .limits .work) (length (pairs ts us ++ ps)) (omega arith)))) fills
+    functions-come f e ts us a b ia ib ga gb (equal q l) =
+        let z = longer-is f ts us a b ia (rw (← q) at ib) ga (rw (← q) at gb) in
+        subst (Comes (pushed (byte (X .file) (2 * f + 1)) j (lay X) (past-kind a 3) (past-kind b 3) w) (Same (m .trail) (plus j (byte (X .file) (2 * f + 1))))) (sym (if-false _ _ _ (ap not (eq-eqb f e q)) ∙ if-false _ _ _ (le-ltb (X .limits .work) (length (pairs ts us ++ ps)) (omega arith))))
+        (pushed-come f ts us a b ia (rw (← q) at ib) ga (rw (← q) at gb) l)
+
+    -- ---- the pair in all its cases
+    -- a side, once it is followed
+    record Side (g : Found) (t : Term) : Type 0 where
+      found : FoundIs (X .rules) g t
+      well-formed : Good (X .rules .functions) (n .cells) t
+      frees : (x : ℕ) → t ≡ var x → Free x s
+
+    side : (h : Held) (t : Term) → IsHeld (X .rules) h t → Good (X .rules .functions) (n .cells) t → Side (followed (m .trail) (X .file) w (lay X) h) (follow s t)
+    side h t i g = record { found = follows X w (m .trail) (n .cells) s stored h t i g; well-formed = follow-good (X .rules .functions) (n .cells) s (good .store) t g; frees = λ x e. follow-free s (good .sound) t x e }
+
+    compares-come : (g h : Found) (t u : Term) → Side g t → Side h u → {c : Pairing} {v : List ℕ} → Compares (X .file) (lay X) (X .limits .work) (m .units) (m .trail) j g h w c v
+        → Comes v c (compared (X .rules) (X .limits) wanted room t u ps n cs d)
+    unfolding compared
+    compares-come g h t u a b (one-variable {x = x} {y = y} e f q) =
+        let (k, i) = subst (λ (z : Found). FoundIs (X .rules) z t) e (a .found) in
+        let (l, o) = subst (λ (z : Found). FoundIs (X .rules) z u) f (b .found) in
+        rw (k, l) (subst (Comes w (Same (m .trail) j)) (sym (if-true _ _ _ (eq-eqb (x .0) (y .0) q))) goes-same)
+    compares-come g h t u a b (head-variable {x = x} {y = y} {s = p₁} {v = v} e f q c) =
+        let (k, i) = subst (λ (z : Found). FoundIs (X .rules) z t) e (a .found) in
+        let (l, o) = subst (λ (z : Found). FoundIs (X .rules) z u) f (b .found) in
+        rw (k, l) (subst (Comes v _) (sym (if-false _ _ _ (ne-eqb (x .0) (y .0) q))) (binds-or (y .0) p₁ (var (x .0)) c (rw l at (b .well-formed)) (b .frees (y .0) l) (rw k at i) (rw k at (a .well-formed))))
+    compares-come g h t u a b (head-free {f = f₁} {y = y} {s = p₁} e f c) =
+        let (ts, k, i) = subst (λ (z : Found). FoundIs (X .rules) z t) e (a .found) in
+        let (l, o) = subst (λ (z : Found). FoundIs (X .rules) z u) f (b .found) in
+        rw (k, l) (binds-or (y .0) p₁ (app f₁ ts) c (rw l at (b .well-formed)) (b .frees (y .0) l) (rw k at i) (rw k at (a .well-formed)))
+    compares-come g h t u a b (goal-free {e = e₁} {x = x} {t = p₁} e f c) =
+        let (k, i) = subst (λ (z : Found). FoundIs (X .rules) z t) e (a .found) in
+        let (us, l, o) = subst (λ (z : Found). FoundIs (X .rules) z u) f (b .found) in
+        rw (k, l) (binds-or (x .0) p₁ (app e₁ us) c (rw k at (a .well-formed)) (a .frees (x .0) k) (rw l at o) (rw l at (b .well-formed)))
+    compares-come g h t u a b (both-applied {e = e₁} {f = f₁} {s = p₁} {t = p₂} e f c) =
+        let (ts, k, i) = subst (λ (z : Found). FoundIs (X .rules) z t) e (a .found) in
+        let (us, l, o) = subst (λ (z : Found). FoundIs (X .rules) z u) f (b .found) in
+        rw (k, l) (functions-come f₁ e₁ ts us p₁ p₂ (rw k at i) (rw l at o) (rw k at (a .well-formed)) (rw l at (b .well-formed)) c)
+
+    -- taking the front pair
+    takes-come : {c : Pairing} {v : List ℕ} → TakesPair (X .file) (lay X) (X .limits .work) (m .units) (m .trail) (m .work) w c v → Comes v c (take-pair (X .rules) (X .limits) wanted room p ps n cs d)
+    unfolding take-pair front-of
+    takes-come (no-pair e) = let f = at .pairs .1 in absurd (omega arith)
+    takes-come (front {k = k} z e c) =
+        compares-come (k .goal) (k .head) (follow s (p .goal-side)) (follow s (p .head-side))
+        (rw (e, rest-is) (side (held-at w (lay X .work + 4 * j)) (p .goal-side) (at .pairs .2) (well .0)))
+        (rw (e, rest-is) (side (held-at w (lay X .work + 4 * j + 2)) (p .head-side) (at .pairs .3) (well .1)))
+        (rw rest-is at c)
+
+    -- ---- the move
+    on-same : {trail work : ℕ} {v u : List ℕ} {st : State} {r : Due} → Comes v (Same trail work) st
+        → MatchesOn (X .file) (lay X) (record { cells = m .cells; trail = trail; steps = m .steps; choice = m .choice; work = work; next = m .next; units = m .units }) v r u → DueIs X u wanted room r st
+    on-same (goes trail work qs o a f) mo = matches-on X wanted room _ _ qs o cs d mo a f units
+
+    on-differ : {v u : List ℕ} {st : State} {r : Due} → Comes v Differ st → Backs (lay X) m (m .trail) (m .choice) v r u → DueIs X u wanted room r st
+    on-differ {v} (fails i rep) b =
+        backs-fail X (tables-room X) wanted room m b s (n .cells) cs d rep (good .sound) (fair .within)
+        (choices-same X w v (i .tables) (tables-room X) (m .steps) (inner-steps w v (m .steps) i) (at .run .choice) (at .run .choices)) (fair .choices) (let a = at .run .choice in let f = at .run .few-steps in omega arith) units
+
+    on-over : {v : List ℕ} {st : State} → Comes v Over st → DueIs X v wanted room (Over·due Work m) st
+    unfolding end-number
+    on-over fills = is-over Work units
+
+    pub moves-pair : {r : Due} {v : List ℕ} → MovesPair (X .file) (given-of X) m w r v → DueIs X v wanted room r (take-pair (X .rules) (X .limits) wanted room p ps n cs d)
+    unfolding given-of
+    moves-pair (same t mo) = on-same (takes-come t) mo
+    moves-pair (differ t b) = on-differ (takes-come t) b
+    moves-pair (over-work t) = on-over (takes-come t)
