@@ -22,4 +22,6 @@ test:
 bench: lib
 	cd host/agreement && cargo build --release --offline
 	host/agreement/target/release/agreement 200000
+	host/agreement/target/release/agreement_calls 200000
 	host/agreement/target/release/bench_reading
+	host/agreement/target/release/bench_calls
