@@ -24,3 +24,4 @@ pub mod Asides
 pub mod Dues
 pub mod Walks
 pub mod Answering
+pub mod Spending
