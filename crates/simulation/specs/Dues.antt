@@ -89,7 +89,7 @@ module _ (X : Setting) where
       let v : List ℕ = due-put (lay X) i p b w in
       let short : p + terms-length (u ∷ₜ us) ≤ length (X .file) = terms-end X a in
       let file : length (X .file) ≤ 60_000 = X .short in
-      let long : length w ≡ needed (length (X .file)) (X .limits) = base .long in
+      let long : needed (length (X .file)) (X .limits) ≤ length w = base .long in
       let base′ : Base X v = base-aside X (aside-work X (lay X .work + 2 * i + 2) (keeps-wider _ _ (lay X .work) _ w v (omega arith) (omega arith) (due-keeps i p b w))) base in
       let next : word v (ahead 64 p) ≡ p + term-length u = ap (word v) (ahead-small 64 p (omega arith)) ∙ after-term v p u (terms-after X v (base′ .tabled) a .0) in
       let u₁ : List ℕ = arguments-put (count us) (count ts) b (p + term-length u) (lay X) v in

@@ -97,7 +97,8 @@ module _ (X : Setting) where
     step-inside = let e = b .long in omega arith
 
     low : at + 4 < 2 ^ 40
-    low = let e = words-small X w b in let i = step-inside in omega arith
+    unfolding layout-of
+    low = let e = words-small X in let i = step-inside in omega arith
 
     half-keeps : Keeps at (at + 4) w half
     half-keeps = four-keeps w at _ _ _ _ (let i = step-inside in omega arith) (let i = low in omega arith)

@@ -278,7 +278,7 @@ module _ (X : Setting) (w : List ℕ) (k n : ℕ) (s : Store) (x stamp : ℕ) (q
     room =
         let a : n ≤ X .limits .cells = q .room in
         let b : length v ≡ length w = l .kept .same-length in
-        let c : length w ≡ needed (length (X .file)) (X .limits) = q .base .long in
+        let c : needed (length (X .file)) (X .limits) ≤ length w = q .base .long in
         let d : k ≤ n = stored-few (q .stored) in
         let e : m < k = one-more in
         record { before-list = omega arith; within-list = omega arith; within = omega arith }

@@ -113,13 +113,14 @@ module _ (X : Setting) where
   unfolding layout-of
   work-tables w v lo hi h k i a b = k .same i (inl (omega arith))
 
-  -- the work region has room for W pairs, and ends the words
-  pub work-room : (w : List ℕ) → Base X w → lay X .work + 4 * W ≡ length w
+  -- the work region has room for W pairs
+  pub work-room : (w : List ℕ) → Base X w → lay X .work + 4 * W ≤ length w
   unfolding layout-of needed
   work-room w b = let l = b .long in omega arith
 
-  pub words-small : (w : List ℕ) → Base X w → length w < 2 ^ 32
-  words-small w b = rw (b .long) (needed-small X)
+  pub words-small : lay X .work + 4 * W < 2 ^ 32
+  unfolding layout-of needed
+  words-small = let k = needed-small X in omega arith
 
   -- one pair is written in front of the pairs below it
   module _ (w : List ℕ) (b : Base X w) (k p a q c : ℕ) (l : k < W) (hp : p ≤ 60000) (hq : q ≤ 60000) where
@@ -133,7 +134,7 @@ module _ (X : Setting) where
     pair-inside = let e = work-room w b in omega arith
 
     pair-low : at < 2 ^ 40
-    pair-low = let e = words-small w b in let i = pair-inside in omega arith
+    pair-low = let e = words-small in let i = pair-inside in omega arith
 
     pub pair-keeps : Keeps at (at + 4) w after-pair
     pair-keeps = four-keeps w at _ a _ c pair-inside pair-low
@@ -144,7 +145,7 @@ module _ (X : Setting) where
     pub pair-head : _≡_ {A = Held} (held-at after-pair (at + 2)) (record { place = record { 0 = q }; base = record { 0 = c } })
     pair-head =
         let i = pair-low in
-        held-is after-pair (at + 2) q c (let s = words-small w b in let j = pair-inside in omega arith) (four-2 w at _ a _ c pair-inside pair-low ∙ place-word q hq)
+        held-is after-pair (at + 2) q c (let s = words-small in let j = pair-inside in omega arith) (four-2 w at _ a _ c pair-inside pair-low ∙ place-word q hq)
         (ap (λ (n : ℕ). word after-pair n) (omega arith) ∙ four-3 w at _ a _ c pair-inside pair-low)
 
   -- what pushing the pairs of the arguments ts and us leaves
@@ -211,6 +212,6 @@ module _ (X : Setting) where
       let hp′ = next-place v (h .place .0) u us b′ t in
       let r = pushed-pairs ts us v work (record { place = place-after v (g .place); base = g .base }) (record { place = place-after v (h .place); base = h .base }) ps b′
       (rw gp (rest s)) (rw hp′ (rest t)) (omega arith) (omega arith)
-      (pairs-same w v work ps (let a = words-small w b in let c = work-room w b in omega arith) (λ i a c. k .same i (inl (omega arith))) q) in
-      subst (Pushed w work (suc n) ps (pairs (insts (from (g .base .0)) (x ∷ₜ ts)) (insts (from (h .base .0)) (u ∷ₜ us)))) (sym (pushed-suc n work (work + n) g h w z)) (pushed-one x u w v _ work n (g .place .0) (g .base .0) (h .place .0) (h .base .0) ps _ ts us s t (omega arith) (let a = words-small w b in let c = work-room w b in omega arith) k
+      (pairs-same w v work ps (let a = words-small in let c = work-room w b in omega arith) (λ i a c. k .same i (inl (omega arith))) q) in
+      subst (Pushed w work (suc n) ps (pairs (insts (from (g .base .0)) (x ∷ₜ ts)) (insts (from (h .base .0)) (u ∷ₜ us)))) (sym (pushed-suc n work (work + n) g h w z)) (pushed-one x u w v _ work n (g .place .0) (g .base .0) (h .place .0) (h .base .0) ps _ ts us s t (omega arith) (let a = words-small in let c = work-room w b in omega arith) k
       (pair-goal w b (work + n) (g .place .0) (g .base .0) (h .place .0) (h .base .0) (omega arith) hp hq) (pair-head w b (work + n) (g .place .0) (g .base .0) (h .place .0) (h .base .0) (omega arith) hp hq) r)

@@ -52,9 +52,9 @@ module _ (X : Setting) where
   abbrev pub lay : Layout
   lay = layout-of (length (X .file)) (length (X .rules .predicates)) (X .limits .cells) (X .limits .steps)
 
-  -- the words are as many as needed, and hold the tables
+  -- there are as many words as needed, and they hold the tables
   pub record Base (w : List ℕ) : Type 0 where
-    pub long : length w ≡ needed (length (X .file)) (X .limits)
+    pub long : needed (length (X .file)) (X .limits) ≤ length w
     pub tabled : Tabled (length (X .file)) (X .rules) w
 
   -- a goal stands at p, or p is of the query

@@ -83,4 +83,4 @@ module _ (X : Setting) where
             (clause-words-same X w v e tables-room _ (clauses-of q 0 (X .rules .clauses)) (numbers q) (t .chains q a h))
 
     pub base-same : length v ≡ length w → Base X w → Base X v
-    base-same l b = record { long = l ∙ b .long; tabled = tabled-same (b .tabled) }
+    base-same l b = record { long = let k = b .long in omega arith; tabled = tabled-same (b .tabled) }

@@ -169,7 +169,7 @@ module _ (X : Setting) where
 
   inner-pairs : (w v : List ℕ) (j : ℕ) (ps : List Pair) → Base X w → j ≤ X .limits .work → Inner w v → PairsAre X w j ps → PairsAre X v j ps
   unfolding layout-of
-  inner-pairs w v j ps b l i q = pairs-same X w v j ps (let a = words-small X w b in let c = work-room X w b in omega arith) (λ k h z. i .above k (omega arith)) q
+  inner-pairs w v j ps b l i q = pairs-same X w v j ps (let a = words-small X in let c = work-room X w b in omega arith) (λ k h z. i .above k (omega arith)) q
 
   pairs-few : (w : List ℕ) (j : ℕ) (ps : List Pair) → PairsAre X w j ps → j ≡ length ps
   pairs-few w j [] e = e

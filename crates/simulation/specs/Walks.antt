@@ -128,7 +128,7 @@ module _ (X : Setting) (u : ℕ) (ys : List ℕ) (writing : Bool) where
     numbers : NumbersAre X u v (appear seen (var x))
     counts : Counts ys writing (appear seen (var x)) (appeared-of free n)
 
-  number-is : {x free n : ℕ} {w v : List ℕ} (seen : List ℕ) → x < u → u ≤ X .limits .cells → length w ≡ needed (length (X .file)) (X .limits) → length ys ≤ 60_000
+  number-is : {x free n : ℕ} {w v : List ℕ} (seen : List ℕ) → x < u → u ≤ X .limits .cells → needed (length (X .file)) (X .limits) ≤ length w → length ys ≤ 60_000
       → NumbersAre X u w seen → Counts ys writing seen free → Leads ys (appear seen (var x)) → Number (lay X) x free w n v → NumberIs x free seen w n v
   unfolding appear layout-of needed
   number-is {x} {free} {w = w} seen l m long short numbers counts leads (known h) =
