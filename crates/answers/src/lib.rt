@@ -7,6 +7,7 @@ use cells::follow;
 use cells::read_cell;
 use meaning::CellNumber;
 use meaning::Place;
+use records::BODY_LENGTHS;
 use words::add;
 use words::byte_at;
 use words::get;
@@ -35,16 +36,16 @@ pub struct Tally {
     pub stop: u32,
 }
 
-// The sizes of the records of an answer: its first, an applied function, a free variable, a step, its last.
-const ANSWER: usize = 5;
+// The sizes of the records of an answer, its kind byte and its body: its first, an applied function, a free variable, a step, its last.
+const ANSWER: usize = 1 + (BODY_LENGTHS[0x0A] as usize);
 
-const APPLICATION: usize = 3;
+const APPLICATION: usize = 1 + (BODY_LENGTHS[0x05] as usize);
 
-const VARIABLE: usize = 3;
+const VARIABLE: usize = 1 + (BODY_LENGTHS[0x0B] as usize);
 
-const STEP: usize = 3;
+const STEP: usize = 1 + (BODY_LENGTHS[0x0C] as usize);
 
-const END: usize = 1;
+const END: usize = 1 + (BODY_LENGTHS[0x0D] as usize);
 
 // Sets the byte of the output at an index.
 fn put_byte(out: &mut [u8], i: usize, b: u32)
