@@ -25,3 +25,4 @@ pub mod Dues
 pub mod Walks
 pub mod Answering
 pub mod Spending
+pub mod Starting
