@@ -1,34 +1,43 @@
 -- A good file says well-formed rules: reader by reader, what is read is well-formed.
 -- Assumes nothing.
-use Prim.Native.Nat.{ℕ, zero, suc, _+_, _<_}
+use Prim.Native.Nat.{ℕ, zero, suc, _+_, _≤_, _<_}
 use mathlib.Core.Path.{_≡_, refl, ap, sym, subst, _∙_}
-use mathlib.Core.Bool.{Bool, true, false, _&&_}
+use mathlib.Core.Bool.{Bool, true, false, _&&_, false≢true}
 use mathlib.Core.List.{List, [], _∷_, _++_}
 use mathlib.Core.Option.{some}
 use native.Mathlib.Omega.{arith}
-use lib.Dec.{leb, eqb}
+use lib.Dec.{ltb, leb, eqb}
 use lib.ListN.{length, getD, getElem?}
 use borrow.Author.Tests.{ltb-true, leb-true, leb-false, eqb-true, not-false}
 use Rattle.meaning.specs.If.{if_then_else_}
 use Rattle.meaning.specs.Terms.{Term, count}
-use Rattle.meaning.specs.Kinds.{a-function, a-predicate, a-clause, a-query, level-limit}
+use Rattle.meaning.specs.Kinds.{a-function, a-predicate, a-clause, a-query, level-limit, arity-limit, function-limit, predicate-limit}
 use Rattle.meaning.specs.Rules.{Call, Goal, call, cut, Clause, Rules}
 use Rattle.meaning.specs.Reading.{Read, refused, read, Reader, after, _>>=_, _>>_, give, refuse, need, terms, goals, term-due, goal-due, item-due}
 use Rattle.meaning.specs.Reading.{byte, next, variable, applied, term, arguments, called, goal, clause, query, items, parse}
 use Rattle.laws.specs.IfLaws.{if-by}
 use Rattle.demands.specs.Proofs.{Each, Well, Wells, calls, WellCall, WellClause, WellFormed}
-use Rattle.demands.specs.Demands.{GoodFilesAreWellFormed}
+use Rattle.demands.specs.Demands.{Says, GoodFilesAreWellFormed}
 
 -- ---- tests
 and-left : (a b : Bool) → (a && b) ≡ true → a ≡ true
 and-left true b e = refl
 and-left false b e = e
 
+and-right : (a b : Bool) → (a && b) ≡ true → b ≡ true
+and-right true b e = e
+and-right false b e = absurd (false≢true e)
+
 -- a number below the length is an index
 index-known : (l : List ℕ) (i : ℕ) → i < length l → getElem? l i ≡ some (getD l i 0)
 index-known [] i h = absurd (omega arith)
 index-known (a ∷ l) zero h = refl
 index-known (a ∷ l) (suc i) h = index-known l i (omega arith)
+
+pub index-less : {A : Type 0} (l : List A) (i : ℕ) (a : A) → getElem? l i ≡ some a → i < length l
+index-less [] i a e = let z : _≡_ {A = ℕ} 0 1 = cc in absurd (omega arith)
+index-less (b ∷ l) zero a e = omega arith
+index-less (b ∷ l) (suc i) a e = let h = index-less l i a e in omega arith
 
 -- ---- readers
 -- what is read, if anything is, has the property
@@ -115,6 +124,13 @@ each-last P (b ∷ l) a ws w = (ws .0, each-last P l a (ws .1) w)
 each-none : {A : Type 0} (P : A → Type 0) (l : List A) → l ≡ [] → Each P l
 each-none P l e = rw e tt
 
+-- no arity passes its limit
+abbrev pub Small : List ℕ → Type 0
+Small arities = Each (λ a. a ≤ arity-limit) arities
+
+abbrev Well-and-small : Rules → Type 0
+Well-and-small R = WellFormed R × Small (R .functions) × Small (R .predicates)
+
 module _ (functions predicates : List ℕ) where
   -- it holds of the rules with these functions and predicates, whatever else they say
   abbrev Over : (Rules → Type 0) → Type 0
@@ -167,14 +183,14 @@ module _ (file functions predicates : List ℕ) where
       after-gives (gives-any _) λ u seen₅ at₅ t.
       this λ cs n hs. record { head = w cs n hs; body = ws cs n hs }
 
-  query-well : (clauses : List Clause) → Clauses-well functions predicates clauses → (p seen at : ℕ) → Gives WellFormed (query file functions predicates clauses p seen at)
+  query-well : (clauses : List Clause) → Small functions → Small predicates → Clauses-well functions predicates clauses → (p seen at : ℕ) → Gives Well-and-small (query file functions predicates clauses p seen at)
   unfolding query _>>_ _>>=_ give
-  query-well clauses cs p seen at =
+  query-well clauses fs ps cs p seen at =
       after-gives (gives-any _) λ u seen₁ at₁ t.
       after-gives (gives-any _) λ u seen₂ at₂ t.
       after-gives (goals-well _ _ seen₂ at₂) λ gs seen₃ at₃ ws.
       after-gives (gives-any _) λ u seen₄ at₄ t.
-      this (record { clauses = cs _ _ _; query = ws _ _ _ })
+      this (record { clauses = cs _ _ _; query = ws _ _ _ }, fs, ps)
 
 -- ---- the whole file
 -- where a kind before the clauses is due, the latest is before the clauses too
@@ -189,43 +205,51 @@ item-order latest kind k e s h = go (leb latest kind) refl
     go true d = omega (arith, same, leb-true latest kind d)
     go false d = omega (arith, same, eqb-true kind a-query (rw d at e))
 
--- the items so far: no clause where functions and predicates may still come, and the clauses are well-formed
+-- the items so far: small arities, no clause where functions and predicates may still come, and the clauses are well-formed
 record So-far (latest : ℕ) (functions predicates : List ℕ) (clauses : List Clause) : Type 0 where
+  functions-small : Small functions
+  predicates-small : Small predicates
   none : latest < a-clause → clauses ≡ []
   well : Clauses-well functions predicates clauses
 
 -- a function or a predicate more; a clause more
 so-far-early : {latest : ℕ} {fs ps : List ℕ} {clauses : List Clause} (kind k : ℕ) {fs′ ps′ : List ℕ} → So-far latest fs ps clauses
-    → item-due latest kind ≡ true → eqb kind k ≡ true → k < a-clause → So-far k fs′ ps′ clauses
-so-far-early {clauses} kind k so due e h =
+    → Small fs′ → Small ps′ → item-due latest kind ≡ true → eqb kind k ≡ true → k < a-clause → So-far k fs′ ps′ clauses
+so-far-early {clauses} kind k so f p due e h =
     let empty : clauses ≡ [] = so .none (item-order _ kind k due e h) in
-    record { none = λ l. empty; well = λ cs n gs. each-none _ clauses empty }
+    record { functions-small = f; predicates-small = p; none = λ l. empty; well = λ cs n gs. each-none _ clauses empty }
 
 so-far-clause : {latest : ℕ} {fs ps : List ℕ} {clauses : List Clause} (c : Clause) → So-far latest fs ps clauses
     → Over fs ps (λ R. WellClause R c) → So-far a-clause fs ps (clauses ++ c ∷ [])
-so-far-clause {clauses} c so w = record { none = λ h. absurd (omega arith); well = λ cs n gs. each-last _ clauses c (so .well cs n gs) (w cs n gs) }
+so-far-clause {clauses} c so w = record { functions-small = so .functions-small; predicates-small = so .predicates-small; none = λ h. absurd (omega arith); well = λ cs n gs. each-last _ clauses c (so .well cs n gs) (w cs n gs) }
 
 module _ (file : List ℕ) where
   items-well : (more latest : ℕ) (functions predicates : List ℕ) (clauses : List Clause) → So-far latest functions predicates clauses
-      → (seen at : ℕ) → Gives WellFormed (items file more latest functions predicates clauses seen at)
+      → (seen at : ℕ) → Gives Well-and-small (items file more latest functions predicates clauses seen at)
   unfolding items _>>_ _>>=_ give
   items-well zero latest functions predicates clauses so seen at = nothing
   items-well (suc more) latest functions predicates clauses so seen at =
       after-gives (next-gives file (item-due latest) seen at) λ p seen₁ at₁ due.
-      let Q : Reader Rules → Type 0 = λ r. Gives WellFormed (r seen₁ at₁) in
-      if-by Q _ (λ k. after-gives (gives-any _) λ u seen₂ at₂ t. items-well more _ _ _ _ (so-far-early _ _ so due k (omega arith)) seen₂ at₂) λ k₁.
-      if-by Q _ (λ k. after-gives (gives-any _) λ u seen₂ at₂ t. items-well more _ _ _ _ (so-far-early _ _ so due k (omega arith)) seen₂ at₂) λ k₂.
+      let Q : Reader Rules → Type 0 = λ r. Gives Well-and-small (r seen₁ at₁) in
+      if-by Q _ (λ k. after-gives (need-gives _ 6 p seen₁ at₁) λ u seen₂ at₂ t.
+      items-well more _ _ _ _ (so-far-early _ _ so (each-last _ functions (byte file (p + 1)) (so .functions-small) (leb-true (byte file (p + 1)) arity-limit (and-right (ltb (length functions) function-limit) _ t))) (so .predicates-small) due k (omega arith)) seen₂ at₂) λ k₁.
+      if-by Q _ (λ k. after-gives (need-gives _ 6 p seen₁ at₁) λ u seen₂ at₂ t.
+      items-well more _ _ _ _ (so-far-early _ _ so (so .functions-small) (each-last _ predicates (byte file (p + 1)) (so .predicates-small) (leb-true (byte file (p + 1)) arity-limit (and-right (ltb (length predicates) predicate-limit) _ t))) due k (omega arith)) seen₂ at₂) λ k₂.
       if-by Q _ (λ k. after-gives (gives-any _) λ u seen₂ at₂ t.
       after-gives (clause-well file _ _ p seen₂ at₂) λ c seen₃ at₃ w.
       items-well more _ _ _ _ (so-far-clause c so w) seen₃ at₃) λ k₃.
-      after-gives (query-well file _ _ clauses (so .well) p seen₁ at₁) λ R seen₂ at₂ w.
+      after-gives (query-well file _ _ clauses (so .functions-small) (so .predicates-small) (so .well) p seen₁ at₁) λ R seen₂ at₂ w.
       after-gives (gives-any _) λ q seen₃ at₃ t.
       after-gives (gives-any _) λ u seen₄ at₄ t.
       this w
 
-  parse-well : Gives WellFormed (parse file)
+  parse-well : Gives Well-and-small (parse file)
   unfolding parse
-  parse-well = items-well (length file) a-function [] [] [] (record { none = λ h. refl; well = λ cs n gs. tt }) 0 0
+  parse-well = items-well (length file) a-function [] [] [] (record { functions-small = tt; predicates-small = tt; none = λ h. refl; well = λ cs n gs. tt }) 0 0
 
 pub good-files-are-well-formed : GoodFilesAreWellFormed
-good-files-are-well-formed file R says = gives-read (subst (Gives WellFormed) (says .2) (parse-well file))
+good-files-are-well-formed file R says = gives-read (subst (Gives Well-and-small) (says .2) (parse-well file)) .0
+
+-- no function and no predicate of a good file has more arguments than the limit says
+pub good-files-have-small-arities : (file : List ℕ) (R : Rules) → Says file R → Small (R .functions) × Small (R .predicates)
+good-files-have-small-arities file R says = let w = gives-read (subst (Gives Well-and-small) (says .2) (parse-well file)) in (w .1, w .2)

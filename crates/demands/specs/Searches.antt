@@ -160,7 +160,7 @@ module _ (R : Rules) (wf : WellFormed R) where
         → At [] (record { goals = o ∷ gs; store = s; cells = u; steps = p }) cs d → At [] (record { goals = gs; store = s; cells = u; steps = p }) cs d
     unfolding with-goals
     past-cut o gs s u p cs d e f a = record {
-      good = record { sound = a .good .sound; store = a .good .store; goals = rw e (a .good .goals); asks = a .good .asks };
+      good = record { sound = a .good .sound; store = a .good .store; goals = rw e (a .good .goals); asks = a .good .asks; numbers = a .good .numbers };
       pairs = tt;
       exact = exact-goals R [] gs (record { goals = o ∷ gs; store = s; cells = u; steps = p }) e (a .exact);
       uncut = f;
@@ -220,7 +220,7 @@ module _ (R : Rules) (wf : WellFormed R) where
         if-by Holds (occurs x (inst (value (n .store)) t))
         (λ e. dead (p ∷ ps) n cs d (λ ν s h. q .inside (occurs-true x _ e) ν s (q .same ν s .0 (h .0))) a)
         (λ e. matching-holds ps (with-binding x t n) cs d (record {
-          good = record { sound = (q .free, occurs-false x _ e, a .good .sound); store = (q .cell, q .term, a .good .store); goals = a .good .goals; asks = a .good .asks };
+          good = record { sound = (q .free, occurs-false x _ e, a .good .sound); store = (q .cell, q .term, a .good .store); goals = a .good .goals; asks = a .good .asks; numbers = a .good .numbers };
           pairs = a .pairs .2;
           exact = exact-bind R p ps x t n (q .same) (a .exact);
           uncut = a .uncut;
@@ -329,7 +329,7 @@ module _ (R : Rules) (wf : WellFormed R) where
         (λ e. if-by Holds (ltb (L .steps) (length (n .steps) + 1))
         (λ f. back-fine 24 (choice (k ∷ ks) g n ∷ cs) d (omega arith) b)
         (λ f. matching-holds (head-pairs R g k n) (with-step k (length cs) n) (choice ks g n ∷ cs) d (record {
-          good = step-good R k (length cs) g n clause-well (c .good);
+          good = step-good R k (length cs) g n (c .untried .0 .0) clause-well (c .good);
           pairs = pairs-good (R .functions) (n .cells + k .clause .variables) (g .arguments) _
               (goods-more (R .functions) (n .cells) (n .cells + k .clause .variables) (omega arith) (g .arguments) (c .good .goals .0 .terms))
               (over-good R (n .cells) (k .clause .variables) (k .clause .head) (clause-well .head) .terms);
@@ -374,13 +374,13 @@ module _ (R : Rules) (wf : WellFormed R) where
         kept ks (inr o) = inr (some-drop (λ c. InChoice c ks) (length cs - h) cs o)
 
     -- ---- the whole run
-    spent : (m : Move) (d : Done) → Due m d → Due m (spend d)
+    pub spent : (m : Move) (d : Done) → Due m d → Due m (spend d)
     unfolding spend
     spent (trying k (choice ks g n) cs) d b = record { choices = b .choices; stacked = b .stacked; sofar = b .sofar }
     spent (taking p ps n cs) d a = record { good = a .good; pairs = a .pairs; exact = a .exact; uncut = a .uncut; choices = a .choices; stacked = a .stacked; sofar = a .sofar }
     spent (cutting h n cs) d (a, l) = (record { good = a .good; pairs = a .pairs; exact = a .exact; uncut = a .uncut; choices = a .choices; stacked = a .stacked; sofar = a .sofar }, l)
 
-    move-holds : (m : Move) (d : Done) → Due m d → Holds (move R L wanted room m d)
+    pub move-holds : (m : Move) (d : Done) → Due m d → Holds (move R L wanted room m d)
     unfolding move take-pair
     move-holds (trying k (choice ks g n) cs) d b = try-head-holds k ks g n cs d b
     move-holds (taking p ps n cs) d a = compared-holds _ _ p ps n cs d refl refl a

@@ -7,7 +7,7 @@ use mathlib.Core.Logic.{_⊎_, inl, inr, _↔_}
 use mathlib.Core.List.{List, [], _∷_, _++_, map, append-assoc, append-nil}
 use mathlib.Core.Option.{Option, none, some, Option·some-injective}
 use native.Mathlib.Omega.{arith}
-use lib.ListN.{getElem?}
+use lib.ListN.{length, getElem?}
 use Rattle.meaning.specs.Terms.{Term, var, app, Terms, []ₜ, _∷ₜ_, count, inst, insts, from, values-from, row}
 use Rattle.meaning.specs.Rules.{Call, Goal, call, cut, Clause, Rules}
 use Rattle.meaning.specs.Store.{Store, empty, bind, value}
@@ -15,6 +15,7 @@ use Rattle.meaning.specs.Answers.{Answer, renumbered}
 use Rattle.meaning.specs.Moves.{Open, goal, cut-to, cut-idle, Derivation, Numbered, Pair, pairs, over, body-goal, query-goal, with-goals, with-binding, with-step, answer}
 use Rattle.demands.specs.Proofs.{Each, Well, Wells, Value, Values, calls, at-values, all-at, Proves, Allows, IsProof, Matches, WellCall, WellClause, WellFormed, NoCut}
 use Rattle.demands.specs.Demands.{Right}
+use Rattle.demands.specs.GoodFiles.{each-last, index-less}
 use Rattle.demands.specs.TermLaws.{inst-var, insts-insts, count-insts, insts-from, from-eq, eq-from}
 use Rattle.demands.specs.StoreLaws.{Sound, Solves, solves-value, value-solves}
 use Rattle.demands.specs.WellLaws.{Any, Goods, GoodStore, goods-more, goods-from, store-more, value-well, well-inst, insts-under, solves-under, joined, joined-below, joined-above, joined-all, Agree, pairs-agree}
@@ -80,6 +81,7 @@ module _ (R : Rules) where
     pub store : GoodStore (R .functions) (n .cells) (n .store)
     pub goals : GoodGoals (n .cells) (n .goals)
     pub asks : R .variables ≤ n .cells
+    pub numbers : Each (λ k. k < length (R .clauses)) (n .steps)
 
   call-more : (n m : ℕ) → n ≤ m → (g : Call) → WellCall R n g → WellCall R m g
   call-more n m h g w = record { arity = w .arity; terms = goods-more (R .functions) n m h (g .arguments) (w .terms) }
@@ -106,13 +108,14 @@ module _ (R : Rules) where
   query-good v (call g ∷ gs) w = (w .0, query-good v gs (w .1))
   query-good v (cut ∷ gs) w = query-good v gs w
 
-  pub step-good : (k : Numbered) (h : ℕ) (g : Call) (n : Derivation) → WellClause R (k .clause) → GoodAt (with-goals (goal g ∷ n .goals) n) → GoodAt (with-step k h n)
+  pub step-good : (k : Numbered) (h : ℕ) (g : Call) (n : Derivation) → getElem? (R .clauses) (k .number) ≡ some (k .clause) → WellClause R (k .clause) → GoodAt (with-goals (goal g ∷ n .goals) n) → GoodAt (with-step k h n)
   unfolding with-goals with-step
-  step-good k h g n w o = record {
+  step-good k h g n e w o = record {
     sound = o .sound;
     store = store-more (R .functions) (n .cells) (n .cells + k .clause .variables) (omega arith) (n .store) (o .store);
     goals = body-good (n .cells) (k .clause .variables) h (k .clause .body) (n .goals) (w .body) (o .goals .1);
     asks = let a : R .variables ≤ n .cells = o .asks in omega arith;
+    numbers = each-last _ (n .steps) (k .number) (o .numbers) (index-less (R .clauses) (k .number) (k .clause) e);
   }
 
   -- goals over the first n cells depend on their values alone
@@ -177,7 +180,7 @@ module _ (R : Rules) where
   asked = record { goals = map query-goal (R .query); store = empty; cells = R .variables; steps = [] }
 
   pub asked-good : WellFormed R → GoodAt asked
-  asked-good w = record { sound = tt; store = tt; goals = query-good (R .variables) (R .query) (w .query); asks = omega arith }
+  asked-good w = record { sound = tt; store = tt; goals = query-good (R .variables) (R .query) (w .query); asks = omega arith; numbers = tt }
 
   pub asked-exact : WellFormed R → Exact [] asked
   asked-exact wf θ o ks = (

@@ -23,6 +23,7 @@ use Rattle.demands.specs.Proofs.{Each}
 use Rattle.demands.specs.Order.{each-map}
 use Rattle.demands.specs.TermLaws.{In, Ins}
 use Rattle.demands.specs.StoreLaws.{Sound}
+use Rattle.demands.specs.Ways.{GoodAt}
 use Rattle.demands.specs.WellLaws.{Good, GoodStore, well-in, well-inst}
 use Rattle.layout.specs.Regions.{word, Keeps}
 use Rattle.search.specs.Search.{step-word}
@@ -100,13 +101,6 @@ pub answer-is : (X : Setting) (wanted room : ℕ) (n : Derivation) → answer (X
 unfolding answer
 answer-is X wanted room n = refl
 
--- what is known of a derivation: its store, its cells, its steps
-pub record Known (X : Setting) (n : Derivation) : Type 0 where
-  pub sound : Sound (n .store)
-  pub good : GoodStore (X .rules .functions) (n .cells) (n .store)
-  pub asks : X .rules .variables ≤ n .cells
-  pub numbers : Each (λ k. k < length (X .rules .clauses)) (n .steps)
-
 -- what the answer that was written is: it fits or stops as the definition's, its bytes are in the output, and the run is as it was
 pub record Answered (X : Setting) (w : List ℕ) (m : Regs) (n : Derivation) (cs : List Choice) (o : List ℕ) (r : Wrote) (v p : List ℕ) : Type 0 where
   pub fit : fit-of r ≡ fitting (length o) (X .limits .work) 0 (pieces (answer-of X n))
@@ -114,7 +108,7 @@ pub record Answered (X : Setting) (w : List ℕ) (m : Regs) (n : Derivation) (cs
   pub aside : Aside X w v
   pub stands : Run X v m n cs
 
-module _ (X : Setting) (w : List ℕ) (m : Regs) (n : Derivation) (cs : List Choice) (run : Run X w m n cs) (known : Known X n) where
+module _ (X : Setting) (w : List ℕ) (m : Regs) (n : Derivation) (cs : List Choice) (run : Run X w m n cs) (known : GoodAt (X .rules) n) where
   abbrev W : ℕ
   W = X .limits .work
 
@@ -144,7 +138,7 @@ module _ (X : Setting) (w : List ℕ) (m : Regs) (n : Derivation) (cs : List Cho
   values-below x i =
       let (y, l, k) = values-in (value (n .store)) 0 (X .rules .variables) x i in
       let h = known .asks in
-      well-in (X .rules .functions) (λ z. z < n .cells) x (value (n .store) y) (value-good (X .rules .functions) (n .cells) (n .store) (known .good) y (omega arith)) k
+      well-in (X .rules .functions) (λ z. z < n .cells) x (value (n .store) y) (value-good (X .rules .functions) (n .cells) (n .store) (known .store) y (omega arith)) k
 
   all-few : length all ≤ 60_000
   unfolding all
@@ -155,7 +149,7 @@ module _ (X : Setting) (w : List ℕ) (m : Regs) (n : Derivation) (cs : List Cho
       omega arith
 
   ground : Ground X (n .store) (m .trail) (n .cells) all w
-  ground = record { stored = stored-of X w (known .sound) (known .good) (run .holds); base = run .holds .base; few = run .holds .few; short = all-few }
+  ground = record { stored = stored-of X w (known .sound) (known .store) (run .holds); base = run .holds .base; few = run .holds .few; short = all-few }
 
   -- before the first value
   before-values : (b : Bool) (v seen : List ℕ) → Aside X w v → NumbersAre X (n .cells) v seen → Counts all b seen 0 → At X (n .cells) all b w none-yet v seen []ₜ
@@ -245,7 +239,7 @@ module _ (X : Setting) (w : List ℕ) (m : Regs) (n : Derivation) (cs : List Cho
           let i = ap length h ∙ length-sets (sets o 0 first) 5 (bytes-of body) ∙ length-sets o 0 first in
           let y = count in (
             ap (λ (j : ℕ). last-put j (lay X) u (r .size) p) (sym count)
-                ∙ last-sets (n .steps) (r .size) (lay X) u p (steps-words X u (n .steps) (m .steps) (run-aside X (x .aside) (known .sound) (known .good) run .steps)) steps-small (omega arith) (omega arith)
+                ∙ last-sets (n .steps) (r .size) (lay X) u p (steps-words X u (n .steps) (m .steps) (run-aside X (x .aside) (known .sound) (known .store) run .steps)) steps-small (omega arith) (omega arith)
                 ∙ ap₂ (λ (j : ℕ) (z : List ℕ). sets z j (bytes-of (tail (n .steps)))) b h
                 ∙ sets-join (sets o 0 first) 5 (bytes-of body) (bytes-of (tail (n .steps)))
                 ∙ sets-join o 0 first (bytes-of body ++ bytes-of (tail (n .steps)))
@@ -260,7 +254,7 @@ module _ (X : Setting) (w : List ℕ) (m : Regs) (n : Derivation) (cs : List Cho
     fit = s ∙ sym f;
     wrote = λ k b. let c : fits ≡ stops e = sym (ap fit-of b) ∙ s in let z : _≡_ {A = ℕ} 0 1 = cc in absurd (omega arith);
     aside = a;
-    stands = run-aside X a (known .sound) (known .good) run;
+    stands = run-aside X a (known .sound) (known .store) run;
   }
 
   -- the answer that is written is the definition's
@@ -281,7 +275,7 @@ module _ (X : Setting) (w : List ℕ) (m : Regs) (n : Derivation) (cs : List Cho
         fit = sym (first-fits o small ∙ f (tail (n .steps)) ∙ tail-fits (length o) W (t .size) (n .steps) (omega arith));
         wrote = λ k g. let c : t .size + last-size (m .steps) ≡ k = cc in (omega arith, x .0 ∙ sets-eq (bytes (answer-of X n)) o 0 (omega arith) ∙ ap (λ (j : ℕ). bytes (answer-of X n) ++ drop j o) i);
         aside = x .1;
-        stands = run-aside X (x .1) (known .sound) (known .good) run;
+        stands = run-aside X (x .1) (known .sound) (known .store) run;
       }
   finishes-are {o = o} (halts e f a) small big (value-crowded s) = stopped Crowded refl (first-fits o small ∙ f (tail (n .steps)) ∙ ap stops s) a
   finishes-are {o = o} (halts (inl e) f a) small big (value-full s z) = absurd (s e)

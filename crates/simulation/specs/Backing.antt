@@ -28,16 +28,11 @@ use Rattle.simulation.specs.Rep.{Setting, lay, layout-of, Base, StoreIs,
 use Rattle.simulation.specs.Frames.{SameSteps, SameTables, choices-same, clause-words-same, goals-same, links-same, steps-same}
 use Rattle.simulation.specs.TableFrames.{base-same}
 use Rattle.simulation.specs.Undoes.{Within, Restored, undo-restores, store-bindings}
-use Rattle.simulation.specs.States.{StoreRep, Run, Onward, TryIs, DueIs, is-try, is-over}
+use Rattle.simulation.specs.States.{SoundAll, none, more, StoreRep, Run, Onward, TryIs, DueIs, is-try, is-over}
 
 module _ (X : Setting) (fits : length (X .rules .predicates) + 2 * length (X .rules .clauses) ≤ length (X .file)) (wanted room : ℕ) where
   abbrev C : ℕ
   C = X .limits .cells
-
-  -- every choice has a sound store over the C cells, and fewer steps than S
-  pub data SoundAll : List Choice → Type 0 where
-    none : SoundAll []
-    more : {ks : List Numbered} {g : Call} {n : Derivation} {cs : List Choice} → Sound (n .store) → Within X (n .store) → n .cells ≤ C → SoundAll cs → SoundAll (choice ks g n ∷ cs)
 
   -- words of cells do not matter to steps and tables
   cells-steps : (w v : List ℕ) (k : ℕ) → Keeps (lay X .cells) (lay X .cells + C) w v → SameSteps X k w v
@@ -133,7 +128,7 @@ module _ (X : Setting) (fits : length (X .rules .predicates) + 2 * length (X .ru
   popped v i s u (k ∷ ks) g n cs (choices _ chain known numbers goal goals less links settled cells trail prior steps older fewer rest) h = let e = chain .0 in absurd (omega arith)
 
   pub backs-fail : {trail c : ℕ} {w v : List ℕ} {r : Due} (m : Regs) → Backs (lay X) m trail c w r v → (s : Store) (u : ℕ) (cs : List Choice) (d : Done) → StoreRep X w s u trail (m .units) → Sound s → Within X s
-      → ChoicesAre X w s u c cs → SoundAll cs → c ≤ X .limits .steps → m .units ≡ d .units → DueIs X v wanted room r (fail cs d)
+      → ChoicesAre X w s u c cs → SoundAll X cs → c ≤ X .limits .steps → m .units ≡ d .units → DueIs X v wanted room r (fail cs d)
   unfolding fail end-number
   backs-fail m (no-choice h) s u _ d rep so wi no-choices al l un = is-over NoMore un
   backs-fail m (no-choice h) s u _ d rep so wi (choices i chain known numbers goal goals less links settled cells trail prior steps older fewer rest) al l un = absurd (omega arith)

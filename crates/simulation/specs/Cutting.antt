@@ -18,14 +18,13 @@ use Rattle.search.specs.declared.Due.{Due}
 use Rattle.simulation.specs.Rep.{Setting, lay, HeightIs, no-height, height, OnChain, here, up, Links, GoalsAre, ChoicesAre, no-choices, choices, PairsAre}
 use Rattle.simulation.specs.Frames.{choices-later}
 use Rattle.simulation.specs.TableFrames.{tables-room}
-use Rattle.simulation.specs.States.{StoreRep, Run, Onward, AtIs, DueIs, is-pair}
-use Rattle.simulation.specs.Backing.{SoundAll, none, more as more-sound}
+use Rattle.simulation.specs.States.{SoundAll, none, more as more-sound, Fair, StoreRep, Run, Onward, AtIs, DueIs, is-pair}
 use Rattle.simulation.specs.Goals.{First, a-cut, an-idle, goals-first, SettledAt, settled-is}
-use Rattle.simulation.specs.Going.{ahead-small, Fair, goes-on}
+use Rattle.simulation.specs.Going.{ahead-small, goes-on}
 
 module _ (X : Setting) (wanted room : ℕ) where
   -- ---- pairs
-  pub matches-on : (w : List ℕ) (m : Regs) (ps : List Pair) (n : Derivation) (cs : List Choice) (d : Done) {r : Due} {v : List ℕ} → MatchesOn (X .file) (lay X) m w r v → AtIs X w m ps n cs → Fair X wanted room n cs → m .units ≡ d .units
+  pub matches-on : (w : List ℕ) (m : Regs) (ps : List Pair) (n : Derivation) (cs : List Choice) (d : Done) {r : Due} {v : List ℕ} → MatchesOn (X .file) (lay X) m w r v → AtIs X w m ps n cs → Fair X n cs → m .units ≡ d .units
       → DueIs X v wanted room r (matching (X .rules) (X .limits) wanted room ps n cs d)
   unfolding matching
   matches-on w m [] n cs d (matched e g) at fair un = goes-on X wanted room w m n cs d at fair un g
@@ -51,14 +50,14 @@ module _ (X : Setting) (wanted room : ℕ) where
       let (k, m) = kept-choices w o g rest in
       (subst (ChoicesAre X w _ _ _) (sym (keep-tail _ _ cs m)) (choices-later X w older fewer k), omega arith)
 
-  sound-drop : (k : ℕ) (cs : List Choice) → SoundAll X (tables-room X) wanted room cs → SoundAll X (tables-room X) wanted room (drop k cs)
+  sound-drop : (k : ℕ) (cs : List Choice) → SoundAll X cs → SoundAll X (drop k cs)
   sound-drop zero cs a = a
   sound-drop (suc k) [] a = a
   sound-drop (suc k) (c ∷ cs) (more-sound a b e f) = sound-drop k cs f
 
-  pub fair-keep : (h : ℕ) (n : Derivation) (cs : List Choice) → Fair X wanted room n cs → Fair X wanted room n (keep h cs)
+  pub fair-keep : (h : ℕ) (n : Derivation) (cs : List Choice) → Fair X n cs → Fair X n (keep h cs)
   unfolding keep
-  fair-keep h n cs f = record { sound = f .sound; within = f .within; goals = f .goals; choices = sound-drop (length cs - h) cs (f .choices) }
+  fair-keep h n cs f = record { good = f .good; within = f .within; choices = sound-drop (length cs - h) cs (f .choices) }
 
   -- ---- a cut
   module _ (w : List ℕ) (m : Regs) (o : Open) (n : Derivation) (cs : List Choice) (at : AtIs X w m [] (with-goals (o ∷ n .goals) n) cs) where
@@ -98,7 +97,7 @@ module _ (X : Setting) (wanted room : ℕ) where
   step-links w zero i e = tt
   step-links w (suc j) i e = here
 
-  pub cut-moves : (w : List ℕ) (m : Regs) (h : ℕ) (n : Derivation) (cs : List Choice) (d : Done) {r : Due} {v : List ℕ} → MovesCut (X .file) (lay X) m w r v → AtIs X w m [] (with-goals (cut-to h ∷ n .goals) n) cs → Fair X wanted room n cs → m .units ≡ d .units
+  pub cut-moves : (w : List ℕ) (m : Regs) (h : ℕ) (n : Derivation) (cs : List Choice) (d : Done) {r : Due} {v : List ℕ} → MovesCut (X .file) (lay X) m w r v → AtIs X w m [] (with-goals (cut-to h ∷ n .goals) n) cs → Fair X n cs → m .units ≡ d .units
       → DueIs X v wanted room r (go-on (X .rules) (X .limits) wanted room n (keep h cs) d)
   unfolding cut-regs with-goals
   cut-moves w m h n cs d {r} {v} (cuts g) at fair un = go (goals-first X w (at .run .holds .base .tabled) (at .next .goals) (at .next .settled))
@@ -112,7 +111,7 @@ module _ (X : Setting) (wanted room : ℕ) where
           (cut-at w m (cut-to h) n cs at h (rw c (ch .0)) (rw c (omega arith)) (rest-at w m (cut-to h) n cs at _ al ga (subst (λ (b : ℕ). Links X w b (m .next .step)) (sym c) (step-links w (m .next .step) i z))))
           (fair-keep h n cs fair) un g
 
-  pub idle-moves : (w : List ℕ) (m : Regs) (n : Derivation) (cs : List Choice) (d : Done) {r : Due} {v : List ℕ} → MovesCut (X .file) (lay X) m w r v → AtIs X w m [] (with-goals (cut-idle ∷ n .goals) n) cs → Fair X wanted room n cs → m .units ≡ d .units
+  pub idle-moves : (w : List ℕ) (m : Regs) (n : Derivation) (cs : List Choice) (d : Done) {r : Due} {v : List ℕ} → MovesCut (X .file) (lay X) m w r v → AtIs X w m [] (with-goals (cut-idle ∷ n .goals) n) cs → Fair X n cs → m .units ≡ d .units
       → DueIs X v wanted room r (go-on (X .rules) (X .limits) wanted room n (keep (length cs) cs) d)
   unfolding cut-regs with-goals
   idle-moves w m n cs d {r} {v} (cuts g) at fair un = go (goals-first X w (at .run .holds .base .tabled) (at .next .goals) (at .next .settled))

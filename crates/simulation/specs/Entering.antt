@@ -22,6 +22,7 @@ use Rattle.demands.specs.Proofs.{Each, WellCall}
 use Rattle.demands.specs.TermLaws.{count-insts}
 use Rattle.demands.specs.StoreLaws.{Free, Sound}
 use Rattle.demands.specs.WellLaws.{GoodStore}
+use Rattle.demands.specs.GoodFiles.{index-less}
 use Rattle.layout.specs.Lengths.{terms-length, head-length, clause-length, clause-place, query-place}
 use Rattle.layout.specs.Standing.{StandsRules, StandsClause}
 use Rattle.layout.specs.Regions.{word, Keeps, after-at, place-at, next-at}
@@ -39,7 +40,7 @@ use Rattle.simulation.specs.PlaceLaws.{rules-stand, terms-end, body-ends
 use Rattle.simulation.specs.Rep.{Setting, lay, layout-of, Base, StoreIs, FreeIs, MarksAre, StepsAre, HeightIs, no-height, height, OnChain, here, up, Links, Settled, GoalsAre, in-query, in-body, GoalIs, ChoicesAre, no-choices, choices, bindings, Older, now, PairsAre}
 use Rattle.simulation.specs.Ranges.{Range, in-range-is}
 use Rattle.simulation.specs.Frames.{keeps-none, SameSteps, SameTables, height-same, links-same, steps-same, goals-same, clause-words-same, next-same, choices-same, choices-later}
-use Rattle.simulation.specs.TableFrames.{index-less, tables-room, base-same}
+use Rattle.simulation.specs.TableFrames.{tables-room, base-same}
 use Rattle.simulation.specs.Undoes.{store-bindings}
 use Rattle.simulation.specs.Follows.{bindings-few}
 use Rattle.simulation.specs.Insides.{store-same}

@@ -17,6 +17,7 @@ use Rattle.demands.specs.Proofs.{Each, WellCall}
 use Rattle.demands.specs.Order.{each-map, clauses-known}
 use Rattle.demands.specs.StoreLaws.{Free, Sound}
 use Rattle.demands.specs.Ways.{todo}
+use Rattle.demands.specs.GoodFiles.{index-less}
 use Rattle.layout.specs.Regions.{word, after-at, first-at, place-at, next-at}
 use Rattle.layout.specs.Tables.{Chain, Tabled}
 use Rattle.words.specs.Words.{ahead}
@@ -26,10 +27,10 @@ use Rattle.search.specs.declared.Regs.{Regs}
 use Rattle.search.specs.declared.Next.{Next}
 use Rattle.search.specs.declared.Due.{Due}
 use Rattle.simulation.specs.Rep.{Setting, lay, layout-of, Base, GoalsAre, GoalIs, ChoicesAre}
-use Rattle.simulation.specs.TableFrames.{index-less, tables-room}
+use Rattle.simulation.specs.TableFrames.{tables-room}
 use Rattle.simulation.specs.Undoes.{Within}
-use Rattle.simulation.specs.States.{StoreRep, Run, Onward, TryIs, AtIs, DueIs, is-try, is-cut, is-idle, is-answer}
-use Rattle.simulation.specs.Backing.{SoundAll, backs-fail}
+use Rattle.simulation.specs.States.{SoundAll, Fair, StoreRep, Run, Onward, TryIs, AtIs, DueIs, is-try, is-cut, is-idle, is-answer}
+use Rattle.simulation.specs.Backing.{backs-fail}
 use Rattle.simulation.specs.Goals.{First, no-goal, a-call, a-cut, an-idle, goals-first, SettledAt, settled-is}
 
 -- a place of the file and a few bytes more do not pass a word
@@ -38,13 +39,6 @@ unfolding ahead
 ahead-small p n h = mod-eq-of-lt h
 
 module _ (X : Setting) (wanted room : ℕ) where
-  -- what the definition's own invariant says of a derivation and its choices
-  pub record Fair (n : Derivation) (cs : List Choice) : Type 0 where
-    pub sound : Sound (n .store)
-    pub within : Within X (n .store)
-    pub goals : Each (WellCall (X .rules) (n .cells)) (todo (n .goals))
-    pub choices : SoundAll X (tables-room X) wanted room cs
-
   abbrev F : ℕ
   F = length (X .file)
 
@@ -64,7 +58,7 @@ module _ (X : Setting) (wanted room : ℕ) where
   no-clauses w x (k ∷ ks) c e = let h = c .0 in absurd (omega arith)
 
   -- a goal is called
-  module _ (w : List ℕ) (m : Regs) (len : ℕ) (g : Call) (os : List Open) (n : Derivation) (cs : List Choice) (d : Done) (at : AtIs X w m [] n cs) (fair : Fair n cs)
+  module _ (w : List ℕ) (m : Regs) (len : ℕ) (g : Call) (os : List Open) (n : Derivation) (cs : List Choice) (d : Done) (at : AtIs X w m [] n cs) (fair : Fair X n cs)
       (stands : GoalIs X w (m .next .place .0) (step-word w (lay X) (m .next .step) 5) g) (after-is : word w (after-at (m .next .place .0)) ≡ m .next .place .0 + len) (within : m .next .place .0 + len ≤ F)
       (behind : GoalsAre X w (m .next .place .0 + len) (m .next .step) os) (units : m .units ≡ d .units) where
     predicate-is : two-bytes (X .file) (m .next .place .0 + 1) ≡ g .predicate
@@ -85,7 +79,7 @@ module _ (X : Setting) (wanted room : ℕ) where
     unfolding fail with-goals trial-of clause-next-word layout-of
     calls r v (no-clause z b) [] numbers chain =
         let l = at .run .choice in let s = at .run .few-steps in
-        backs-fail X (tables-room X) wanted room m b (n .store) (n .cells) cs d (at .run .holds) (fair .sound) (fair .within) (at .run .choices) (fair .choices) (omega arith) units
+        backs-fail X (tables-room X) wanted room m b (n .store) (n .cells) cs d (at .run .holds) (fair .good .sound) (fair .within) (at .run .choices) (fair .choices) (omega arith) units
     calls r v (no-clause z b) (k ∷ ks) numbers chain = let h = chain .0 in let e = first-is in absurd (omega arith)
     calls r v (first-clause {k = j} z) [] numbers chain = let e = first-is in absurd (omega arith)
     calls r v (first-clause {k = j} z) (k ∷ ks) numbers chain =
@@ -101,7 +95,7 @@ module _ (X : Setting) (wanted room : ℕ) where
         }) units
 
   -- the first open goal is taken
-  module _ (w : List ℕ) (m : Regs) (n : Derivation) (cs : List Choice) (d : Done) (at : AtIs X w m [] n cs) (fair : Fair n cs) (units : m .units ≡ d .units) where
+  module _ (w : List ℕ) (m : Regs) (n : Derivation) (cs : List Choice) (d : Done) (at : AtIs X w m [] n cs) (fair : Fair X n cs) (units : m .units ≡ d .units) where
     abbrev Comes : Due → List ℕ → List Open → Type 0
     Comes r v os = DueIs X v wanted room r (take-goal (X .rules) (X .limits) wanted room os n cs d)
 
@@ -111,13 +105,13 @@ module _ (X : Setting) (wanted room : ℕ) where
     first-goes : (os : List Open) {r : Due} {v : List ℕ} → n .goals ≡ os → First X w (at .run .holds .base .tabled) (m .next .place .0) (m .next .step) os → GoesOn (X .file) (lay X) m w r v → Comes r v os
     unfolding take-goal with-goals
     first-goes [] e (no-goal a b z) (Cut-move c) = absurd (b c)
-    first-goes [] e (no-goal a b z) (Answer-move c k) = is-answer n cs d at e units
+    first-goes [] e (no-goal a b z) (Answer-move c k) = is-answer n cs d at fair e units
     first-goes [] e (no-goal a b z) (Goal-move c k) = absurd (a c)
     first-goes (goal g ∷ os) e (a-call len k gi aw al ga) (Cut-move c) = absurd (omega arith)
     first-goes (goal g ∷ os) e (a-call len k gi aw al ga) (Answer-move c j) = absurd (j k)
     first-goes (goal g ∷ os) e (a-call len k gi aw al ga) (Goal-move c j) =
         calls w m len g os n cs d at fair gi aw al ga units _ _ j (clauses-of (g .predicate) 0 (X .rules .clauses)) (numbers (g .predicate))
-        (at .run .holds .base .tabled .chains (g .predicate) _ (subst (λ (x : List Open). Each (WellCall (X .rules) (n .cells)) (todo x)) e (fair .goals) .0 .arity))
+        (at .run .holds .base .tabled .chains (g .predicate) _ (subst (λ (x : List Open). Each (WellCall (X .rules) (n .cells)) (todo x)) e (fair .good .goals) .0 .arity))
     first-goes (cut-to h ∷ os) e (a-cut k i z hi pr al ga) (Cut-move c) = is-cut (subst (λ (x : List Open). AtIs X w m [] (record { goals = x; store = n .store; cells = n .cells; steps = n .steps }) cs) e at) units
     first-goes (cut-to h ∷ os) e (a-cut k i z hi pr al ga) (Answer-move c j) = absurd (c k)
     first-goes (cut-to h ∷ os) e (a-cut k i z hi pr al ga) (Goal-move c j) = absurd (omega arith)

@@ -28,9 +28,8 @@ use Rattle.simulation.specs.Places.{GoalsFrom, whole}
 use Rattle.simulation.specs.PlaceLaws.{rules-stand}
 use Rattle.simulation.specs.Rep.{Setting, lay, layout-of, Base, in-query, no-choices}
 use Rattle.simulation.specs.TableFrames.{tables-room, base-same}
-use Rattle.simulation.specs.States.{AtIs, DueIs, is-over}
-use Rattle.simulation.specs.Backing.{none}
-use Rattle.simulation.specs.Going.{Fair, goes-on, ahead-small}
+use Rattle.simulation.specs.States.{none, Fair, AtIs, DueIs, is-over}
+use Rattle.simulation.specs.Going.{goes-on, ahead-small}
 use Rattle.simulation.specs.Fresh.{Cleared, freed-clears}
 use Rattle.simulation.specs.Trying.{given-of}
 
@@ -75,8 +74,8 @@ module _ (X : Setting) (wanted room : ℕ) where
       next = record { goals = in-query whole; step = omega arith; links = tt; settled = tt };
     }
 
-    fair-start : Fair X wanted room n₀ []
-    fair-start = record { sound = tt; within = tt; goals = asked-good (X .rules) (good-files-are-well-formed (X .file) (X .rules) (X .seen, X .end, X .good)) .goals; choices = none }
+    fair-start : Fair X n₀ []
+    fair-start = record { good = asked-good (X .rules) (good-files-are-well-formed (X .file) (X .rules) (X .seen, X .end, X .good)); within = tt; choices = none }
 
   pub start-comes : {w u : List ℕ} {r : Due} → Base X w → Starts (X .file) (given-of X) wanted w r u → DueIs X u wanted room r (start (X .rules) (X .limits) wanted room)
   unfolding start nothing end-number given-of start-regs

@@ -12,7 +12,8 @@ use Rattle.meaning.specs.Store.{Store}
 use Rattle.meaning.specs.Moves.{Open, cut-to, cut-idle, Derivation, Numbered, Choice, choice, Pair, Move, trying, taking, cutting, Done, State, ended, due, with-goals, keep, answering}
 use Rattle.meaning.specs.declared.End.{End}
 use Rattle.demands.specs.Proofs.{Each}
-use Rattle.demands.specs.StoreLaws.{Free}
+use Rattle.demands.specs.StoreLaws.{Free, Sound}
+use Rattle.demands.specs.Ways.{GoodAt}
 use Rattle.layout.specs.Lengths.{clause-place}
 use Rattle.layout.specs.Regions.{word, place-at}
 use Rattle.layout.specs.Tables.{Chain}
@@ -23,6 +24,19 @@ use Rattle.search.specs.declared.Trial.{Trial}
 use Rattle.search.specs.declared.Due.{Due}
 use Rattle.search.specs.declared.Due.the-variants.{Try, Pair as Pair-due, Cut, Answer, Over}
 use Rattle.simulation.specs.Rep.{Setting, lay, Base, StoreIs, FreeIs, MarksAre, PairsAre, StepsAre, Links, Settled, GoalsAre, GoalIs, ChoicesAre}
+use Rattle.simulation.specs.Undoes.{Within}
+
+module _ (X : Setting) where
+  -- every choice has a sound store over the C cells
+  pub data SoundAll : List Choice → Type 0 where
+    none : SoundAll []
+    more : {ks : List Numbered} {g : Call} {n : Derivation} {cs : List Choice} → Sound (n .store) → Within X (n .store) → n .cells ≤ X .limits .cells → SoundAll cs → SoundAll (choice ks g n ∷ cs)
+
+  -- what the definition's own invariant says of a derivation and its choices
+  pub record Fair (n : Derivation) (cs : List Choice) : Type 0 where
+    pub good : GoodAt (X .rules) n
+    pub within : Within X (n .store)
+    pub choices : SoundAll cs
 
 module _ (X : Setting) (w : List ℕ) where
   -- the store s with u cells taken, k of which are bound, after so many units
@@ -74,5 +88,5 @@ module _ (X : Setting) (w : List ℕ) where
       is-pair : {m : Regs} {p : Pair} {ps : List Pair} {n : Derivation} {cs : List Choice} {d : Done} → AtIs m (p ∷ ps) n cs → m .units ≡ d .units → DueIs (Pair-due m) (due (taking p ps n cs) d)
       is-cut : {m : Regs} {h : ℕ} {n : Derivation} {cs : List Choice} {d : Done} → AtIs m [] (with-goals (cut-to h ∷ n .goals) n) cs → m .units ≡ d .units → DueIs (Cut m) (due (cutting h n cs) d)
       is-idle : {m : Regs} {n : Derivation} {cs : List Choice} {d : Done} → AtIs m [] (with-goals (cut-idle ∷ n .goals) n) cs → m .units ≡ d .units → DueIs (Cut m) (due (cutting (length cs) n cs) d)
-      is-answer : {m : Regs} (n : Derivation) (cs : List Choice) (d : Done) → AtIs m [] n cs → n .goals ≡ [] → m .units ≡ d .units → DueIs (Answer m) (answering (X .rules) (X .limits) wanted room n cs d)
+      is-answer : {m : Regs} (n : Derivation) (cs : List Choice) (d : Done) → AtIs m [] n cs → Fair X n cs → n .goals ≡ [] → m .units ≡ d .units → DueIs (Answer m) (answering (X .rules) (X .limits) wanted room n cs d)
       is-over : (e : End) {m : Regs} {d : Done} → m .units ≡ d .units → DueIs (Over e m) (ended (end-number e) d)

@@ -12,6 +12,7 @@ use Rattle.meaning.specs.Rules.{Call, Goal, call, cut, Clause, Rules}
 use Rattle.meaning.specs.Moves.{Numbered, clauses-of}
 use Rattle.meaning.specs.Call.{needed}
 use Rattle.demands.specs.Proofs.{Each}
+use Rattle.demands.specs.GoodFiles.{index-less}
 use Rattle.demands.specs.Order.{each-map, clauses-known}
 use Rattle.layout.specs.Lengths.{term-length, terms-length, goal-length, goals-length, head-length, clause-length, clause-place, query-place}
 use Rattle.layout.specs.Standing.{StandsRules, StandsClause}
@@ -21,12 +22,6 @@ use Rattle.layout.specs.Tables.{AfterTerm, AfterTerms, AfterGoal, AfterGoals, A
 use Rattle.tables.specs.Stood.{tables-fit}
 use Rattle.simulation.specs.Rep.{Setting, lay, layout-of, Base}
 use Rattle.simulation.specs.Frames.{SameTables, clause-words-same}
-
--- an index that is there is below the length
-pub index-less : {A : Type 0} (l : List A) (i : ℕ) (a : A) → getElem? l i ≡ some a → i < length l
-index-less [] i a e = let z : _≡_ {A = ℕ} 0 1 = cc in absurd (omega arith)
-index-less (b ∷ l) zero a e = omega arith
-index-less (b ∷ l) (suc i) a e = let h = index-less l i a e in omega arith
 
 module _ (X : Setting) where
   pub stands : StandsRules (X .file) (X .rules)

@@ -50,9 +50,9 @@ use Rattle.simulation.specs.TableFrames.{tables-room, base-same}
 use Rattle.simulation.specs.Undoes.{Within, store-bindings, store-set}
 use Rattle.simulation.specs.Follows.{Stored, FoundIs, follows, bindings-few}
 use Rattle.simulation.specs.Insides.{Looking, insides, store-same, stored-kept}
-use Rattle.simulation.specs.States.{StoreRep, Run, Onward, AtIs, DueIs, is-over}
-use Rattle.simulation.specs.Backing.{SoundAll, backs-fail}
-use Rattle.simulation.specs.Going.{Fair, ahead-small}
+use Rattle.simulation.specs.States.{Fair, StoreRep, Run, Onward, AtIs, DueIs, is-over}
+use Rattle.simulation.specs.Backing.{backs-fail}
+use Rattle.simulation.specs.Going.{ahead-small}
 use Rattle.simulation.specs.Cutting.{matches-on}
 use Rattle.simulation.specs.Pushing.{plus-small, pairs-same, work-room, words-small, Pushed, pushed-pairs, place-few, work-tables}
 use Rattle.simulation.specs.Packing.{packed-held}
@@ -180,7 +180,7 @@ module _ (X : Setting) where
   marks-inner w v k = record { as-long = k .same-length; tables = λ i a b. k .same i (inl (omega arith)); above = λ i a. k .same i (inr (omega arith)) }
 
   module _ (wanted room : ℕ) (few-arity : (f a : ℕ) → getElem? (X .rules .functions) f ≡ some a → a ≤ arity-limit) (w : List ℕ) (m : Regs) (p : Pair) (ps : List Pair) (n : Derivation) (cs : List Choice) (d : Done)
-      (at : AtIs X w m (p ∷ ps) n cs) (marks : MarksAre X w (n .cells) (m .units)) (good : GoodAt (X .rules) n) (well : GoodPairs (X .rules .functions) (n .cells) (p ∷ ps)) (fair : Fair X wanted room n cs) (units : m .units ≡ d .units) where
+      (at : AtIs X w m (p ∷ ps) n cs) (marks : MarksAre X w (n .cells) (m .units)) (well : GoodPairs (X .rules .functions) (n .cells) (p ∷ ps)) (fair : Fair X n cs) (units : m .units ≡ d .units) where
     abbrev s : Store
     s = n .store
 
@@ -193,13 +193,16 @@ module _ (X : Setting) where
     cells-few : n .cells ≤ 60000
     cells-few = let r = in-range-is (X .limits) (X .in-limits) in let c = r .few-cells in let f = at .run .holds .few in omega arith
 
+    good : GoodAt (X .rules) n
+    good = fair .good
+
     stored : Stored X w (m .trail) (n .cells) s
     stored = record { sound = good .sound; is = at .run .holds .store; free = at .run .holds .free; good = good .store; few = cells-few }
 
     -- what the pair comes to
     pub data Comes (v : List ℕ) : Pairing → State → Type 0 where
       goes : (trail work : ℕ) (qs : List Pair) (o : Derivation)
-          → AtIs X v (record { cells = m .cells; trail = trail; steps = m .steps; choice = m .choice; work = work; next = m .next; units = m .units }) qs o cs → Fair X wanted room o cs → Comes v (Same trail work) (matching (X .rules) (X .limits) wanted room qs o cs d)
+          → AtIs X v (record { cells = m .cells; trail = trail; steps = m .steps; choice = m .choice; work = work; next = m .next; units = m .units }) qs o cs → Fair X o cs → Comes v (Same trail work) (matching (X .rules) (X .limits) wanted room qs o cs d)
       fails : Inner w v → StoreRep X v s (n .cells) (m .trail) (m .units) → Comes v Differ (fail cs d)
       fills : Comes v Over (ended 25 d)
 
@@ -237,7 +240,7 @@ module _ (X : Setting) where
           pairs = inner-pairs w u j ps (at .run .holds .base) (let e = at .pairs .1 in let f = at .few in omega arith) b (at .pairs .4);
           few = let e = at .pairs .1 in let f = at .few in omega arith;
           next = inner-onward w u m n (suc (m .trail)) j (at .run .choice) b (at .next);
-        }) (record { sound = sound-then; within = (let f = at .run .holds .few in let g = good-then .0 in omega arith, fair .within); goals = fair .goals; choices = fair .choices }))
+        }) (record { good = record { sound = sound-then; store = good-then; goals = good .goals; asks = good .asks; numbers = good .numbers }; within = (let f = at .run .holds .few in let g = good-then .0 in omega arith, fair .within); choices = fair .choices }))
 
     -- a free variable is bound, or stands inside its new value
     binds-or : (x : ℕ) (h : Held) (t : Term) {c : Pairing} {v : List ℕ} → BindChecked (X .file) (lay X) (m .units) (m .trail) j (record { 0 = x }) h w c v → x < n .cells → Free x s → IsHeld (X .rules) h t → Good (X .rules .functions) (n .cells) t

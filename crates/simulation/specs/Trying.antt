@@ -39,9 +39,7 @@ use Rattle.simulation.specs.Rep.{Setting, lay, layout-of}
 use Rattle.simulation.specs.Ranges.{Range, in-range-is}
 use Rattle.simulation.specs.TableFrames.{tables-room}
 use Rattle.simulation.specs.Undoes.{Within, within-good}
-use Rattle.simulation.specs.States.{StoreRep, Run, TryIs, AtIs, DueIs, is-over}
-use Rattle.simulation.specs.Backing.{SoundAll, more}
-use Rattle.simulation.specs.Going.{Fair}
+use Rattle.simulation.specs.States.{SoundAll, more, Fair, StoreRep, Run, TryIs, AtIs, DueIs, is-over}
 use Rattle.simulation.specs.Cutting.{matches-on}
 use Rattle.simulation.specs.Entering.{Tried, entered-at, arity-is}
 
@@ -55,7 +53,7 @@ given-of X = record {
 }
 
 module _ (X : Setting) (wf : WellFormed (X .rules)) (few-arity : (q a : ℕ) → getElem? (X .rules .predicates) q ≡ some a → a ≤ arity-limit) (wanted room : ℕ) where
-  module _ (w : List ℕ) (t : Trial) (m : Regs) (k : Numbered) (ks : List Numbered) (g : Call) (n : Derivation) (cs : List Choice) (try : TryIs X w t m k ks g n cs) (c : GoodChoice (X .rules) wf (k ∷ ks) g n) (below : SoundAll X (tables-room X) wanted room cs) where
+  module _ (w : List ℕ) (t : Trial) (m : Regs) (k : Numbered) (ks : List Numbered) (g : Call) (n : Derivation) (cs : List Choice) (try : TryIs X w t m k ks g n cs) (c : GoodChoice (X .rules) wf (k ∷ ks) g n) (below : SoundAll X cs) where
     known : getElem? (X .rules .clauses) (k .number) ≡ some (k .clause)
     known = c .untried .0 .0
 
@@ -88,12 +86,12 @@ module _ (X : Setting) (wf : WellFormed (X .rules)) (few-arity : (q a : ℕ) →
     unfolding room-of given-of
     room-is = rw (place-is, rules-stand X .clauses (k .number) (k .clause) known .variables, try .run .cells, try .run .steps .0) refl
 
-    fair : Fair X wanted room (with-step k (length cs) n) (choice ks g n ∷ cs)
+    fair : Fair X (with-step k (length cs) n) (choice ks g n ∷ cs)
     unfolding with-step with-goals
     fair =
-        let good = step-good (X .rules) k (length cs) g n clause-well (c .good) in
+        let good = step-good (X .rules) k (length cs) g n known clause-well (c .good) in
         let within = within-good X (X .rules .functions) (n .cells) (n .store) (try .run .holds .few) (c .good .store) in
-        record { sound = c .good .sound; within = within; goals = good .goals; choices = more (c .good .sound) within (try .run .holds .few) below }
+        record { good = good; within = within; choices = more (c .good .sound) within (try .run .holds .few) below }
 
     abbrev here-place : Place
     here-place = record { 0 = clause-place (X .rules) (k .number) }

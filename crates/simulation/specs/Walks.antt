@@ -17,6 +17,7 @@ use Rattle.meaning.specs.Store.{Store, value, follow}
 use Rattle.meaning.specs.Answers.{has, appear, appears, index, Piece, piece, two, write, writes, write-each, bytes-of, stops, fitting}
 use Rattle.meaning.specs.Call.{needed}
 use Rattle.laws.specs.IfLaws.{if-true, if-false}
+use Rattle.demands.specs.GoodFiles.{index-less}
 use Rattle.demands.specs.TermLaws.{count-insts}
 use Rattle.demands.specs.StoreLaws.{Free, value-free, value-solves-itself, solves-follow, follow-free}
 use Rattle.demands.specs.WellLaws.{Good, Goods, follow-good}
@@ -35,7 +36,6 @@ use Rattle.answers.specs.Values.{Nodes, node-stopped, none-due, next-due, value
 use Rattle.simulation.specs.Places.{TermsAt, of-term, IsHeld}
 use Rattle.simulation.specs.Rep.{Setting, lay, layout-of, Base}
 use Rattle.simulation.specs.Frames.{keeps-none, keeps-wider, set-keeps}
-use Rattle.simulation.specs.TableFrames.{index-less}
 use Rattle.simulation.specs.PlaceLaws.{rules-stand, terms-end, arity-stands}
 use Rattle.simulation.specs.Follows.{FoundIs, Stored, follows, Binds, free-or-bound, follow-free-variable, follow-bound, store-bound, bound-good}
 use Rattle.simulation.specs.Ranges.{in-range-is}
