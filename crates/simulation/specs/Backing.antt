@@ -88,7 +88,7 @@ module _ (X : Setting) (fits : length (X .rules .predicates) + 2 * length (X .ru
   -- its next clause is tried
   retry-is : (w v : List ℕ) (m : Regs) (i : ℕ) (s : Store) (u : ℕ) (ks : List Numbered) (g : Call) (n : Derivation) (cs : List Choice) (d : Done) → i < X .limits .steps → m .units ≡ d .units
       → Gone w (m .units) i s u ks g n cs v → ChoicesAre X v s u (suc i) (choice ks g n ∷ cs) → 0 < rest-word v (lay X) (suc i) .clause
-      → DueIs X v wanted room (retried v (lay X) m (step-word w (lay X) (suc i) 6) (suc i) i (rest-word v (lay X) (suc i) .prior) (rest-word v (lay X) (suc i) .clause - 1)) (fail (choice ks g n ∷ cs) d)
+      → DueIs X v wanted room d (retried v (lay X) m (step-word w (lay X) (suc i) 6) (suc i) i (rest-word v (lay X) (suc i) .prior) (rest-word v (lay X) (suc i) .clause - 1)) (fail (choice ks g n ∷ cs) d)
   unfolding rest-word retried fail step-next
   retry-is w v m i s u [] g n cs d l units gone (choices _ chain known numbers goal goals less links settled cells trail prior steps older fewer rest) h = absurd (omega arith)
   retry-is w v m i s u (k ∷ ks) g n cs d l units gone (choices _ chain known numbers goal goals less links settled cells trail prior steps older fewer rest) h =
@@ -128,7 +128,7 @@ module _ (X : Setting) (fits : length (X .rules .predicates) + 2 * length (X .ru
   popped v i s u (k ∷ ks) g n cs (choices _ chain known numbers goal goals less links settled cells trail prior steps older fewer rest) h = let e = chain .0 in absurd (omega arith)
 
   pub backs-fail : {trail c : ℕ} {w v : List ℕ} {r : Due} (m : Regs) → Backs (lay X) m trail c w r v → (s : Store) (u : ℕ) (cs : List Choice) (d : Done) → StoreRep X w s u trail (m .units) → Sound s → Within X s
-      → ChoicesAre X w s u c cs → SoundAll X cs → c ≤ X .limits .steps → m .units ≡ d .units → DueIs X v wanted room r (fail cs d)
+      → ChoicesAre X w s u c cs → SoundAll X cs → c ≤ X .limits .steps → m .units ≡ d .units → DueIs X v wanted room d r (fail cs d)
   unfolding fail end-number
   backs-fail m (no-choice h) s u _ d rep so wi no-choices al l un = is-over NoMore un
   backs-fail m (no-choice h) s u _ d rep so wi (choices i chain known numbers goal goals less links settled cells trail prior steps older fewer rest) al l un = absurd (omega arith)
@@ -142,4 +142,4 @@ module _ (X : Setting) (fits : length (X .rules .predicates) + 2 * length (X .ru
       let G = gone w v (m .units) trail i s u ks g n cs rep so wi (choices i chain known numbers goal goals less links settled cells mark prior steps older fewer rest) fewer mark older e in
       let (none-left, below, less′) = popped v i s u ks g n cs (G .all) k in
       let after = backs-fail m b (n .store) (n .cells) cs d (G .holds) so′ wi′ below al (omega arith) un in
-      subst (λ (ls : List Numbered). DueIs X x wanted room r (fail (choice ls g n ∷ cs) d)) (sym none-left) after
+      subst (λ (ls : List Numbered). DueIs X x wanted room d r (fail (choice ls g n ∷ cs) d)) (sym none-left) after

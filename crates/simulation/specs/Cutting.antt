@@ -25,7 +25,7 @@ use Rattle.simulation.specs.Going.{ahead-small, goes-on}
 module _ (X : Setting) (wanted room : ℕ) where
   -- ---- pairs
   pub matches-on : (w : List ℕ) (m : Regs) (ps : List Pair) (n : Derivation) (cs : List Choice) (d : Done) {r : Due} {v : List ℕ} → MatchesOn (X .file) (lay X) m w r v → AtIs X w m ps n cs → Fair X n cs → m .units ≡ d .units
-      → DueIs X v wanted room r (matching (X .rules) (X .limits) wanted room ps n cs d)
+      → DueIs X v wanted room d r (matching (X .rules) (X .limits) wanted room ps n cs d)
   unfolding matching
   matches-on w m [] n cs d (matched e g) at fair un = goes-on X wanted room w m n cs d at fair un g
   matches-on w m [] n cs d (more e) at fair un = absurd (e (at .pairs))
@@ -98,11 +98,11 @@ module _ (X : Setting) (wanted room : ℕ) where
   step-links w (suc j) i e = here
 
   pub cut-moves : (w : List ℕ) (m : Regs) (h : ℕ) (n : Derivation) (cs : List Choice) (d : Done) {r : Due} {v : List ℕ} → MovesCut (X .file) (lay X) m w r v → AtIs X w m [] (with-goals (cut-to h ∷ n .goals) n) cs → Fair X n cs → m .units ≡ d .units
-      → DueIs X v wanted room r (go-on (X .rules) (X .limits) wanted room n (keep h cs) d)
+      → DueIs X v wanted room d r (go-on (X .rules) (X .limits) wanted room n (keep h cs) d)
   unfolding cut-regs with-goals
   cut-moves w m h n cs d {r} {v} (cuts g) at fair un = go (goals-first X w (at .run .holds .base .tabled) (at .next .goals) (at .next .settled))
     where
-      go : First X w (at .run .holds .base .tabled) (m .next .place .0) (m .next .step) (cut-to h ∷ n .goals) → DueIs X v wanted room r (go-on (X .rules) (X .limits) wanted room n (keep h cs) d)
+      go : First X w (at .run .holds .base .tabled) (m .next .place .0) (m .next .step) (cut-to h ∷ n .goals) → DueIs X v wanted room d r (go-on (X .rules) (X .limits) wanted room n (keep h cs) d)
       go (a-cut k i z hi pr al ga) =
           let c : kept-of w (lay X) (m .choice) (m .next .step) ≡ step-word w (lay X) (m .next .step) 7 = kept-step w (m .choice) (m .next .step) i z in
           let ch = kept-choices w (links-step w (m .choice) (m .next .step) i z (at .next .links)) hi (at .run .choices) in
@@ -112,11 +112,11 @@ module _ (X : Setting) (wanted room : ℕ) where
           (fair-keep h n cs fair) un g
 
   pub idle-moves : (w : List ℕ) (m : Regs) (n : Derivation) (cs : List Choice) (d : Done) {r : Due} {v : List ℕ} → MovesCut (X .file) (lay X) m w r v → AtIs X w m [] (with-goals (cut-idle ∷ n .goals) n) cs → Fair X n cs → m .units ≡ d .units
-      → DueIs X v wanted room r (go-on (X .rules) (X .limits) wanted room n (keep (length cs) cs) d)
+      → DueIs X v wanted room d r (go-on (X .rules) (X .limits) wanted room n (keep (length cs) cs) d)
   unfolding cut-regs with-goals
   idle-moves w m n cs d {r} {v} (cuts g) at fair un = go (goals-first X w (at .run .holds .base .tabled) (at .next .goals) (at .next .settled))
     where
-      go : First X w (at .run .holds .base .tabled) (m .next .place .0) (m .next .step) (cut-idle ∷ n .goals) → DueIs X v wanted room r (go-on (X .rules) (X .limits) wanted room n (keep (length cs) cs) d)
+      go : First X w (at .run .holds .base .tabled) (m .next .place .0) (m .next .step) (cut-idle ∷ n .goals) → DueIs X v wanted room d r (go-on (X .rules) (X .limits) wanted room n (keep (length cs) cs) d)
       go (an-idle k z al ga) =
           let c : kept-of w (lay X) (m .choice) (m .next .step) ≡ m .choice = kept-query w (m .choice) (m .next .step) z in
           goes-on X wanted room w (cut-regs (X .file) w (lay X) m) n (keep (length cs) cs) d

@@ -75,7 +75,7 @@ module _ (X : Setting) (wanted room : ℕ) where
         settled-is X w (at .run .holds .base .tabled) (place-after w (m .next .place) .0) (m .next .step) (m .choice) os (rw e behind) (at .next .links)
 
     calls : (r : Due) (v : List ℕ) → Calls (X .file) (lay X) m (m .next) w r v → (ks : List Numbered) → Each (λ k. k .number < length (X .rules .clauses)) ks → Chain w F q (X .rules) (word w (first-at F (g .predicate))) ks
-        → DueIs X v wanted room r (fail (choice ks g (with-goals os n) ∷ cs) d)
+        → DueIs X v wanted room d r (fail (choice ks g (with-goals os n) ∷ cs) d)
     unfolding fail with-goals trial-of clause-next-word layout-of
     calls r v (no-clause z b) [] numbers chain =
         let l = at .run .choice in let s = at .run .few-steps in
@@ -97,7 +97,7 @@ module _ (X : Setting) (wanted room : ℕ) where
   -- the first open goal is taken
   module _ (w : List ℕ) (m : Regs) (n : Derivation) (cs : List Choice) (d : Done) (at : AtIs X w m [] n cs) (fair : Fair X n cs) (units : m .units ≡ d .units) where
     abbrev Comes : Due → List ℕ → List Open → Type 0
-    Comes r v os = DueIs X v wanted room r (take-goal (X .rules) (X .limits) wanted room os n cs d)
+    Comes r v os = DueIs X v wanted room d r (take-goal (X .rules) (X .limits) wanted room os n cs d)
 
     numbers : (p : ℕ) → Each (λ k. k .number < length (X .rules .clauses)) (clauses-of p 0 (X .rules .clauses))
     numbers p = each-map _ _ (λ k h. index-less (X .rules .clauses) (k .number) (k .clause) (h .0)) (clauses-of p 0 (X .rules .clauses)) (clauses-known p (X .rules .clauses))
@@ -105,7 +105,7 @@ module _ (X : Setting) (wanted room : ℕ) where
     first-goes : (os : List Open) {r : Due} {v : List ℕ} → n .goals ≡ os → First X w (at .run .holds .base .tabled) (m .next .place .0) (m .next .step) os → GoesOn (X .file) (lay X) m w r v → Comes r v os
     unfolding take-goal with-goals
     first-goes [] e (no-goal a b z) (Cut-move c) = absurd (b c)
-    first-goes [] e (no-goal a b z) (Answer-move c k) = is-answer n cs d at fair e units
+    first-goes [] e (no-goal a b z) (Answer-move c k) = is-answer n cs at fair e units
     first-goes [] e (no-goal a b z) (Goal-move c k) = absurd (a c)
     first-goes (goal g ∷ os) e (a-call len k gi aw al ga) (Cut-move c) = absurd (omega arith)
     first-goes (goal g ∷ os) e (a-call len k gi aw al ga) (Answer-move c j) = absurd (j k)
@@ -119,6 +119,6 @@ module _ (X : Setting) (wanted room : ℕ) where
     first-goes (cut-idle ∷ os) e (an-idle k z al ga) (Answer-move c j) = absurd (c k)
     first-goes (cut-idle ∷ os) e (an-idle k z al ga) (Goal-move c j) = absurd (omega arith)
 
-    pub goes-on : {r : Due} {v : List ℕ} → GoesOn (X .file) (lay X) m w r v → DueIs X v wanted room r (go-on (X .rules) (X .limits) wanted room n cs d)
+    pub goes-on : {r : Due} {v : List ℕ} → GoesOn (X .file) (lay X) m w r v → DueIs X v wanted room d r (go-on (X .rules) (X .limits) wanted room n cs d)
     unfolding go-on
     goes-on g = first-goes (n .goals) refl (goals-first X w (at .run .holds .base .tabled) (at .next .goals) (at .next .settled)) g

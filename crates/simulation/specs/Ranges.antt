@@ -3,13 +3,16 @@
 use Prim.Native.Nat.{ℕ, _+_, _*_, _^_, _≤_, _<_}
 use mathlib.Core.Path.{_≡_, refl}
 use mathlib.Core.Bool.{Bool, true, false, _&&_}
+use mathlib.Core.Option.{some}
 use native.Mathlib.Omega.{arith}
 use lib.Dec.{leb}
-use lib.ListN.{length}
+use lib.ListN.{length, getElem?}
 use borrow.Author.Tests.{leb-true}
-use Rattle.meaning.specs.Kinds.{file-limit}
+use Rattle.meaning.specs.Kinds.{file-limit, arity-limit}
 use Rattle.meaning.specs.Moves.{Limits}
 use Rattle.meaning.specs.Call.{in-range, needed}
+use Rattle.demands.specs.Order.{each-at}
+use Rattle.demands.specs.GoodFiles.{good-files-have-small-arities}
 use Rattle.simulation.specs.Rep.{Setting}
 
 pub record Range (L : Limits) : Type 0 where
@@ -42,3 +45,11 @@ in-range-is L e =
 pub needed-small : (X : Setting) → needed (length (X .file)) (X .limits) < 2 ^ 32
 unfolding needed
 needed-small X = let r = in-range-is (X .limits) (X .in-limits) in let s = X .short in let a = r .few-cells in let b = r .few-steps in let c = r .few-work in omega arith
+
+-- ---- the arities of a good file
+module _ (X : Setting) where
+  pub few-functions : (f a : ℕ) → getElem? (X .rules .functions) f ≡ some a → a ≤ arity-limit
+  few-functions f a e = each-at _ (X .rules .functions) f a (good-files-have-small-arities (X .file) (X .rules) (X .seen, X .end, X .good) .0) e
+
+  pub few-predicates : (q a : ℕ) → getElem? (X .rules .predicates) q ≡ some a → a ≤ arity-limit
+  few-predicates q a e = each-at _ (X .rules .predicates) q a (good-files-have-small-arities (X .file) (X .rules) (X .seen, X .end, X .good) .1) e

@@ -77,14 +77,14 @@ module _ (X : Setting) (wanted room : ℕ) where
     fair-start : Fair X n₀ []
     fair-start = record { good = asked-good (X .rules) (good-files-are-well-formed (X .file) (X .rules) (X .seen, X .end, X .good)); within = tt; choices = none }
 
-  pub start-comes : {w u : List ℕ} {r : Due} → Base X w → Starts (X .file) (given-of X) wanted w r u → DueIs X u wanted room r (start (X .rules) (X .limits) wanted room)
+  pub start-comes : {w u : List ℕ} {r : Due} → Base X w → Starts (X .file) (given-of X) wanted w r u → DueIs X u wanted room nothing r (start (X .rules) (X .limits) wanted room)
   unfolding start nothing end-number given-of start-regs
-  start-comes {w} b (none-wanted e) = subst (DueIs X w wanted room _) (sym (if-true _ _ _ (eq-eqb wanted 0 e))) (is-over Wanted refl)
+  start-comes {w} b (none-wanted e) = subst (DueIs X w wanted room nothing _) (sym (if-true _ _ _ (eq-eqb wanted 0 e))) (is-over Wanted refl)
   start-comes {w} b (few-cells e l) =
       let q = rules-stand X .query-variables in
-      subst (DueIs X w wanted room _) (sym (if-false _ _ _ (ne-eqb wanted 0 e) ∙ if-true _ _ _ (lt-ltb (X .limits .cells) (X .rules .variables) (omega arith)))) (is-over Cells refl)
+      subst (DueIs X w wanted room nothing _) (sym (if-false _ _ _ (ne-eqb wanted 0 e) ∙ if-true _ _ _ (lt-ltb (X .limits .cells) (X .rules .variables) (omega arith)))) (is-over Cells refl)
   start-comes {w} {u} b (starts e l g) =
       let q = rules-stand X .query-variables in
       let h : X .rules .variables ≤ X .limits .cells = omega arith in
-      subst (DueIs X u wanted room _) (sym (if-false _ _ _ (ne-eqb wanted 0 e) ∙ if-false _ _ _ (le-ltb (X .limits .cells) (X .rules .variables) h)))
+      subst (DueIs X u wanted room nothing _) (sym (if-false _ _ _ (ne-eqb wanted 0 e) ∙ if-false _ _ _ (le-ltb (X .limits .cells) (X .rules .variables) h)))
       (goes-on X wanted room (v w b h) m₀ n₀ [] nothing (at-start w b h) (fair-start w b h) refl (rw (regs-are, q) at g))

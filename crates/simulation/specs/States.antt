@@ -81,12 +81,12 @@ module _ (X : Setting) (w : List ℕ) where
     pub few : m .work ≤ X .limits .work
     pub next : Onward m (m .next) (n .goals)
 
-  module _ (wanted room : ℕ) where
-    -- what is due is what the state says
+  module _ (wanted room : ℕ) (d : Done) where
+    -- what is due is what the state says, once so much was done
     pub data DueIs : Due → State → Type 0 where
-      is-try : {t : Trial} {m : Regs} {k : Numbered} {ks : List Numbered} {g : Call} {n : Derivation} {cs : List Choice} {d : Done} → TryIs t m k ks g n cs → m .units ≡ d .units → DueIs (Try t m) (due (trying k (choice ks g n) cs) d)
-      is-pair : {m : Regs} {p : Pair} {ps : List Pair} {n : Derivation} {cs : List Choice} {d : Done} → AtIs m (p ∷ ps) n cs → m .units ≡ d .units → DueIs (Pair-due m) (due (taking p ps n cs) d)
-      is-cut : {m : Regs} {h : ℕ} {n : Derivation} {cs : List Choice} {d : Done} → AtIs m [] (with-goals (cut-to h ∷ n .goals) n) cs → m .units ≡ d .units → DueIs (Cut m) (due (cutting h n cs) d)
-      is-idle : {m : Regs} {n : Derivation} {cs : List Choice} {d : Done} → AtIs m [] (with-goals (cut-idle ∷ n .goals) n) cs → m .units ≡ d .units → DueIs (Cut m) (due (cutting (length cs) n cs) d)
-      is-answer : {m : Regs} (n : Derivation) (cs : List Choice) (d : Done) → AtIs m [] n cs → Fair X n cs → n .goals ≡ [] → m .units ≡ d .units → DueIs (Answer m) (answering (X .rules) (X .limits) wanted room n cs d)
-      is-over : (e : End) {m : Regs} {d : Done} → m .units ≡ d .units → DueIs (Over e m) (ended (end-number e) d)
+      is-try : {t : Trial} {m : Regs} {k : Numbered} {ks : List Numbered} {g : Call} {n : Derivation} {cs : List Choice} → TryIs t m k ks g n cs → m .units ≡ d .units → DueIs (Try t m) (due (trying k (choice ks g n) cs) d)
+      is-pair : {m : Regs} {p : Pair} {ps : List Pair} {n : Derivation} {cs : List Choice} → AtIs m (p ∷ ps) n cs → m .units ≡ d .units → DueIs (Pair-due m) (due (taking p ps n cs) d)
+      is-cut : {m : Regs} {h : ℕ} {n : Derivation} {cs : List Choice} → AtIs m [] (with-goals (cut-to h ∷ n .goals) n) cs → m .units ≡ d .units → DueIs (Cut m) (due (cutting h n cs) d)
+      is-idle : {m : Regs} {n : Derivation} {cs : List Choice} → AtIs m [] (with-goals (cut-idle ∷ n .goals) n) cs → m .units ≡ d .units → DueIs (Cut m) (due (cutting (length cs) n cs) d)
+      is-answer : {m : Regs} (n : Derivation) (cs : List Choice) → AtIs m [] n cs → Fair X n cs → n .goals ≡ [] → m .units ≡ d .units → DueIs (Answer m) (answering (X .rules) (X .limits) wanted room n cs d)
+      is-over : (e : End) {m : Regs} → m .units ≡ d .units → DueIs (Over e m) (ended (end-number e) d)

@@ -44,7 +44,7 @@ use Rattle.search.specs.declared.Due.the-variants.{Over as Over·due}
 use Rattle.simulation.specs.Places.{TermsAt, of-term, IsHeld}
 use Rattle.simulation.specs.PlaceLaws.{arity-stands}
 use Rattle.simulation.specs.Rep.{Setting, lay, layout-of, Base, StoreIs, FreeIs, MarksAre, PairsAre, ChoicesAre, Older, now, since, bindings}
-use Rattle.simulation.specs.Ranges.{Range, in-range-is}
+use Rattle.simulation.specs.Ranges.{few-functions, Range, in-range-is}
 use Rattle.simulation.specs.Frames.{SameSteps, SameTables, steps-same, goals-same, links-same, choices-same, choices-later}
 use Rattle.simulation.specs.TableFrames.{tables-room, base-same}
 use Rattle.simulation.specs.Undoes.{Within, store-bindings, store-set}
@@ -179,7 +179,7 @@ module _ (X : Setting) where
   unfolding layout-of
   marks-inner w v k = record { as-long = k .same-length; tables = λ i a b. k .same i (inl (omega arith)); above = λ i a. k .same i (inr (omega arith)) }
 
-  module _ (wanted room : ℕ) (few-arity : (f a : ℕ) → getElem? (X .rules .functions) f ≡ some a → a ≤ arity-limit) (w : List ℕ) (m : Regs) (p : Pair) (ps : List Pair) (n : Derivation) (cs : List Choice) (d : Done)
+  module _ (wanted room : ℕ) (w : List ℕ) (m : Regs) (p : Pair) (ps : List Pair) (n : Derivation) (cs : List Choice) (d : Done)
       (at : AtIs X w m (p ∷ ps) n cs) (marks : MarksAre X w (n .cells) (m .units)) (well : GoodPairs (X .rules .functions) (n .cells) (p ∷ ps)) (fair : Fair X n cs) (units : m .units ≡ d .units) where
     abbrev s : Store
     s = n .store
@@ -329,7 +329,7 @@ module _ (X : Setting) where
 
       longer-is : plus j (byte (X .file) (2 * f + 1)) ≡ length (pairs ts us ++ ps)
       longer-is =
-          let c = few-arity f (count ts) (ga .0) in let l = at .few in let e = at .pairs .1 in let r = in-range-is (X .limits) (X .in-limits) in let q = r .few-work in
+          let c = few-functions X f (count ts) (ga .0) in let l = at .few in let e = at .pairs .1 in let r = in-range-is (X .limits) (X .in-limits) in let q = r .few-work in
           ap (plus j) arity-is ∙ plus-small j (count ts) (omega arith)
           ∙ (let x = pairs-length ts us counts in let y = pairs-few w j ps (at .pairs .4) in omega (arith, length-append (pairs ts us) ps))
 
@@ -346,7 +346,7 @@ module _ (X : Setting) where
       pushed-come l =
           let (xs, bs, st, e) = held-app a f ts ia in
           let (ys, cs′, su, g) = held-app b f us ib in
-          let c = few-arity f (count ts) (ga .0) in
+          let c = few-functions X f (count ts) (ga .0) in
           let q = at .few in let k = at .pairs .1 in
           let r = in-range-is (X .limits) (X .in-limits) in let s = r .few-work in
           let nx : count xs ≡ count ts = sym (ap count e ∙ count-insts (from (a .base .0)) xs) in
@@ -418,19 +418,19 @@ module _ (X : Setting) where
 
     -- ---- the move
     on-same : {trail work : ℕ} {v u : List ℕ} {st : State} {r : Due} → Comes v (Same trail work) st
-        → MatchesOn (X .file) (lay X) (record { cells = m .cells; trail = trail; steps = m .steps; choice = m .choice; work = work; next = m .next; units = m .units }) v r u → DueIs X u wanted room r st
+        → MatchesOn (X .file) (lay X) (record { cells = m .cells; trail = trail; steps = m .steps; choice = m .choice; work = work; next = m .next; units = m .units }) v r u → DueIs X u wanted room d r st
     on-same (goes trail work qs o a f) mo = matches-on X wanted room _ _ qs o cs d mo a f units
 
-    on-differ : {v u : List ℕ} {st : State} {r : Due} → Comes v Differ st → Backs (lay X) m (m .trail) (m .choice) v r u → DueIs X u wanted room r st
+    on-differ : {v u : List ℕ} {st : State} {r : Due} → Comes v Differ st → Backs (lay X) m (m .trail) (m .choice) v r u → DueIs X u wanted room d r st
     on-differ {v} (fails i rep) b =
         backs-fail X (tables-room X) wanted room m b s (n .cells) cs d rep (good .sound) (fair .within)
         (choices-same X w v (i .tables) (tables-room X) (m .steps) (inner-steps w v (m .steps) i) (at .run .choice) (at .run .choices)) (fair .choices) (let a = at .run .choice in let f = at .run .few-steps in omega arith) units
 
-    on-over : {v : List ℕ} {st : State} → Comes v Over st → DueIs X v wanted room (Over·due Work m) st
+    on-over : {v : List ℕ} {st : State} → Comes v Over st → DueIs X v wanted room d (Over·due Work m) st
     unfolding end-number
     on-over fills = is-over Work units
 
-    pub moves-pair : {r : Due} {v : List ℕ} → MovesPair (X .file) (given-of X) m w r v → DueIs X v wanted room r (take-pair (X .rules) (X .limits) wanted room p ps n cs d)
+    pub moves-pair : {r : Due} {v : List ℕ} → MovesPair (X .file) (given-of X) m w r v → DueIs X v wanted room d r (take-pair (X .rules) (X .limits) wanted room p ps n cs d)
     unfolding given-of
     moves-pair (same t mo) = on-same (takes-come t) mo
     moves-pair (differ t b) = on-differ (takes-come t) b

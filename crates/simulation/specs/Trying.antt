@@ -36,7 +36,7 @@ use Rattle.search.specs.declared.Room.{Room}
 use Rattle.search.specs.declared.Room.the-variants.{Cells as Room-cells, Steps as Room-steps, Fits}
 use Rattle.simulation.specs.PlaceLaws.{rules-stand}
 use Rattle.simulation.specs.Rep.{Setting, lay, layout-of}
-use Rattle.simulation.specs.Ranges.{Range, in-range-is}
+use Rattle.simulation.specs.Ranges.{few-predicates, Range, in-range-is}
 use Rattle.simulation.specs.TableFrames.{tables-room}
 use Rattle.simulation.specs.Undoes.{Within, within-good}
 use Rattle.simulation.specs.States.{SoundAll, more, Fair, StoreRep, Run, TryIs, AtIs, DueIs, is-over}
@@ -52,7 +52,7 @@ given-of X = record {
   query = record { 0 = query-place (X .rules) };
 }
 
-module _ (X : Setting) (wf : WellFormed (X .rules)) (few-arity : (q a : ℕ) → getElem? (X .rules .predicates) q ≡ some a → a ≤ arity-limit) (wanted room : ℕ) where
+module _ (X : Setting) (wf : WellFormed (X .rules)) (wanted room : ℕ) where
   module _ (w : List ℕ) (t : Trial) (m : Regs) (k : Numbered) (ks : List Numbered) (g : Call) (n : Derivation) (cs : List Choice) (try : TryIs X w t m k ks g n cs) (c : GoodChoice (X .rules) wf (k ∷ ks) g n) (below : SoundAll X cs) where
     known : getElem? (X .rules .clauses) (k .number) ≡ some (k .clause)
     known = c .untried .0 .0
@@ -70,7 +70,7 @@ module _ (X : Setting) (wf : WellFormed (X .rules)) (few-arity : (q a : ℕ) →
       known = known;
       arity = arity;
       counts = Option·some-injective _ _ (sym arity ∙ ap (getElem? (X .rules .predicates)) (c .untried .0 .1) ∙ clause-well .head .arity);
-      few = let f = few-arity (g .predicate) (count (g .arguments)) arity in let r = in-range-is (X .limits) (X .in-limits) in let s = r .some-work in omega arith;
+      few = let f = few-predicates X (g .predicate) (count (g .arguments)) arity in let r = in-range-is (X .limits) (X .in-limits) in let s = r .some-work in omega arith;
       sound = c .good .sound;
       good = c .good .store;
       cells = a;
@@ -100,38 +100,38 @@ module _ (X : Setting) (wf : WellFormed (X .rules)) (few-arity : (q a : ℕ) →
     entered-due : (d : Done) {r : Due} {u : List ℕ} → m .units ≡ d .units → n .cells + k .clause .variables ≤ X .limits .cells → m .steps < X .limits .steps
         → MatchesOn (X .file) (lay X) (entered-regs (X .file) (entered-words (X .file) (given-of X) t m here-place (k .clause .variables) w) (lay X) m here-place (k .clause .variables) (arity-at (X .file) (length (X .rules .functions)) (t .goal)))
         (entered-words (X .file) (given-of X) t m here-place (k .clause .variables) w) r u
-        → DueIs X u wanted room r (matching (X .rules) (X .limits) wanted room (pairs (g .arguments) (over (n .cells) (k .clause .head) .arguments)) (with-step k (length cs) n) (choice ks g n ∷ cs) d)
+        → DueIs X u wanted room d r (matching (X .rules) (X .limits) wanted room (pairs (g .arguments) (over (n .cells) (k .clause .head) .arguments)) (with-step k (length cs) n) (choice ks g n ∷ cs) d)
     unfolding entered-words given-of entered-regs
     entered-due d {r} {u} un a b mo =
         let at = entered-at X w t m k ks g n cs try (tried a b) in
         matches-on X wanted room _ _ _ _ _ d (subst (λ (x : ℕ). MatchesOn (X .file) (lay X) (entered-regs (X .file) (paired (lay X) x t here-place (m .cells) (freed (k .clause .variables) (m .cells) (lay X) (step-put (lay X) t m w))) (lay X) m here-place (k .clause .variables) x)
         (paired (lay X) x t here-place (m .cells) (freed (k .clause .variables) (m .cells) (lay X) (step-put (lay X) t m w))) r u) (arity-is X w t m k ks g n cs try (tried a b)) mo) at fair un
 
-    pub tries-head : (d : Done) {r : Due} {v : List ℕ} → TriesHead (X .file) (given-of X) t m w r v → m .units ≡ d .units → DueIs X v wanted room r (try-head (X .rules) (X .limits) wanted room k (choice ks g n) cs d)
+    pub tries-head : (d : Done) {r : Due} {v : List ℕ} → TriesHead (X .file) (given-of X) t m w r v → m .units ≡ d .units → DueIs X v wanted room d r (try-head (X .rules) (X .limits) wanted room k (choice ks g n) cs d)
     unfolding try-head end-number given-of
     tries-head d h un =
-        if-by (DueIs X _ wanted room _) (ltb (X .limits .cells) (n .cells + k .clause .variables))
+        if-by (DueIs X _ wanted room d _) (ltb (X .limits .cells) (n .cells + k .clause .variables))
         (λ b. over-one h (room-is ∙ if-true _ _ _ b))
-        (λ b. if-by (DueIs X _ wanted room _) (ltb (X .limits .steps) (length (n .steps) + 1))
+        (λ b. if-by (DueIs X _ wanted room d _) (ltb (X .limits .steps) (length (n .steps) + 1))
         (λ c′. over-two h (room-is ∙ if-false _ _ _ b ∙ if-true _ _ _ c′))
         (λ c′. fits h (room-is ∙ if-false _ _ _ b ∙ if-false _ _ _ c′) (ltb-false _ _ b) (ltb-false _ _ c′)))
       where
-        over-one : {r : Due} {v : List ℕ} → TriesHead (X .file) (given-of X) t m w r v → room-of (X .file) w (given-of X) (t .clause) m ≡ Room-cells → DueIs X v wanted room r (ended 23 d)
+        over-one : {r : Due} {v : List ℕ} → TriesHead (X .file) (given-of X) t m w r v → room-of (X .file) w (given-of X) (t .clause) m ≡ Room-cells → DueIs X v wanted room d r (ended 23 d)
         over-one (over-cells a) e = is-over Cells un
         over-one (over-steps a) e = let z : _≡_ {A = ℕ} 0 1 = cc in absurd (omega arith)
         over-one (tries a x y) e = let z : _≡_ {A = ℕ} 0 1 = cc in absurd (omega arith)
 
-        over-two : {r : Due} {v : List ℕ} → TriesHead (X .file) (given-of X) t m w r v → room-of (X .file) w (given-of X) (t .clause) m ≡ Room-steps → DueIs X v wanted room r (ended 24 d)
+        over-two : {r : Due} {v : List ℕ} → TriesHead (X .file) (given-of X) t m w r v → room-of (X .file) w (given-of X) (t .clause) m ≡ Room-steps → DueIs X v wanted room d r (ended 24 d)
         over-two (over-cells a) e = let z : _≡_ {A = ℕ} 0 1 = cc in absurd (omega arith)
         over-two (over-steps a) e = is-over Steps un
         over-two (tries a x y) e = let z : _≡_ {A = ℕ} 0 1 = cc in absurd (omega arith)
 
         fits : {r : Due} {v : List ℕ} → TriesHead (X .file) (given-of X) t m w r v → room-of (X .file) w (given-of X) (t .clause) m ≡ Fits here-place (k .clause .variables) → n .cells + k .clause .variables ≤ X .limits .cells → length (n .steps) + 1 ≤ X .limits .steps
-            → DueIs X v wanted room r (matching (X .rules) (X .limits) wanted room (pairs (g .arguments) (over (n .cells) (k .clause .head) .arguments)) (with-step k (length cs) n) (choice ks g n ∷ cs) d)
+            → DueIs X v wanted room d r (matching (X .rules) (X .limits) wanted room (pairs (g .arguments) (over (n .cells) (k .clause .head) .arguments)) (with-step k (length cs) n) (choice ks g n ∷ cs) d)
         fits (over-cells a) e i j = let z : _≡_ {A = ℕ} 0 1 = cc in absurd (omega arith)
         fits (over-steps a) e i j = let z : _≡_ {A = ℕ} 0 1 = cc in absurd (omega arith)
         fits (tries {p = q} {variables = x} a f mo) e i j = let s = try .run .steps .0 in again q x f mo (cc) (cc) i (omega arith)
           where
             again : (q : Place) (x : ℕ) {o : Regs} {y u : List ℕ} {s : Due} → Enters (X .file) (given-of X) t m q x w o y → MatchesOn (X .file) (given-of X .lay) o y s u → q ≡ here-place → x ≡ k .clause .variables → n .cells + k .clause .variables ≤ X .limits .cells → m .steps < X .limits .steps
-                → DueIs X u wanted room s (matching (X .rules) (X .limits) wanted room (pairs (g .arguments) (over (n .cells) (k .clause .head) .arguments)) (with-step k (length cs) n) (choice ks g n ∷ cs) d)
+                → DueIs X u wanted room d s (matching (X .rules) (X .limits) wanted room (pairs (g .arguments) (over (n .cells) (k .clause .head) .arguments)) (with-step k (length cs) n) (choice ks g n ∷ cs) d)
             again q x enters mo eq ex i j = entered-due d un i j (rw (eq, ex) at mo)
