@@ -29,7 +29,7 @@ use Rattle.answers.specs.declared.Wrote.the-variants.{Bytes, Full, Crowded}
 use Rattle.machine.specs.declared.run.Written.{Written}
 use Rattle.machine.specs.Running.{spent, behind-of, going-on, over-of, ended-of, WritesBehind, written-behind, Lists, no-output, last-wanted, goes-back, full, crowded, Moves, try-late, pair-late, cut-late, tries-one, pairs-one, cuts-one, lists, is-over, RunsFrom, stops, onward, nothing-yet, Runs, runs}
 
-pub spend-is : (m : Regs) (u : ℕ) → u ≡ plus (m .units) 1 → _≡_ {A = Regs} (record { cells = m .cells; trail = m .trail; steps = m .steps; choice = m .choice; work = m .work; next = m .next; units = u }) (spent m)
+pub spend-is : (m : Regs) (u : ℕ) → u ≡ plus (m .units) 1 → _≡_ {A = Regs} (record { cells = m .cells; trail = m .trail; steps = m .steps; choice = m .choice; work = m .work; fresh = m .fresh; next = m .next; units = u }) (spent m)
 unfolding spent
 spend-is m u e = rw e refl
 

@@ -24,7 +24,7 @@ use Rattle.answers.specs.declared.Wrote.the-variants.{Bytes, Full, Crowded}
 use Rattle.machine.specs.declared.run.Written.{Written}
 
 unfoldable pub spent : Regs → Regs
-spent m = record { cells = m .cells; trail = m .trail; steps = m .steps; choice = m .choice; work = m .work; next = m .next; units = plus (m .units) 1 }
+spent m = record { cells = m .cells; trail = m .trail; steps = m .steps; choice = m .choice; work = m .work; fresh = m .fresh; next = m .next; units = plus (m .units) 1 }
 
 unfoldable pub behind-of : Written → ℕ → Written
 behind-of t size = record { answers = plus (t .answers) 1; bytes = ahead (t .bytes) size }

@@ -15,7 +15,7 @@ use Rattle.cells.specs.declared.Held.{Held}
 use Rattle.cells.specs.declared.Found.{Found}
 use Rattle.cells.specs.declared.Found.the-variants.{Unbound, Function}
 use Rattle.cells.specs.declared.Layout.{Layout}
-use Rattle.matching.specs.Matching.{put-four, held-at, place-after, word-of-place, pushed, past-kind, BindChecked, is-inside, binds, Functions, unequal, crowded, equal, front-of, Compares, one-variable, head-variable, head-free, goal-free, both-applied, TakesPair, no-pair, front}
+use Rattle.matching.specs.Matching.{put-four, held-at, place-after, word-of-place, pushed, past-kind, bound-to, one-bound, BindChecked, is-inside, binds, BindHead, unmentioned, mentioned, Functions, unequal, crowded, equal, front-of, Compares, one-variable, head-variable, head-free, goal-free, both-applied, TakesPair, no-pair, front}
 use Rattle.matching.specs.declared.Pairing.{Pairing}
 use Rattle.matching.specs.declared.Pairing.the-variants.{Same, Differ, Over}
 use Rattle.matching.specs.declared.Front.{Front}
@@ -75,26 +75,42 @@ module _ (n work : ℕ) (lay : Layout) (g h : Held) (w₀ : List ℕ) (left : �
   push-again k v p′ q′ z e f a b = record { rest = push-rest k v p′ q′ z e f a b; few = let m = i .few in omega arith; as-long = ap length f ∙ put-four-length w _ _ _ _ _ ∙ i .as-long }
 
 -- ---- binding
-module _ (file : List ℕ) (lay : Layout) (stamp trail work : ℕ) (x : CellNumber) (h : Held) (w v : List ℕ) (b : Bool) (d : Inside file lay stamp trail (x .0) h w b v) where
-  pub bind-inside : b ≡ true → BindChecked file lay stamp trail work x h w Differ v
-  bind-inside e = is-inside (rw e at d)
+pub bound-is : (lay : Layout) (trail : ℕ) (x : CellNumber) (h : Held) (w v : List ℕ) → v ≡ set (set w (lay .cells + x .0) (word-of h)) (lay .trail + trail) (x .0) → v ≡ bound-to lay trail x h w
+unfolding bound-to
+bound-is lay trail x h w v e = e
 
-  pub bind-binds : (u : List ℕ) (t : ℕ) → b ≡ false → u ≡ set (set v (lay .cells + x .0) (word-of h)) (lay .trail + trail) (x .0) → t ≡ plus trail 1 → BindChecked file lay stamp trail work x h w (Same t work) u
-  bind-binds u t e f g = rw (f, g) (binds (rw e at d))
+pub one-is : (trail work fresh t : ℕ) → t ≡ plus trail 1 → Same t work fresh ≡ one-bound trail work fresh
+unfolding one-bound
+one-is trail work fresh t e = rw e refl
+
+module _ (file : List ℕ) (lay : Layout) (stamp trail work fresh : ℕ) (x : CellNumber) (h : Held) (w : List ℕ) where
+  module _ (v : List ℕ) (b : Bool) (d : Inside file lay stamp trail (x .0) h w b v) where
+    pub bind-inside : b ≡ true → BindChecked file lay stamp trail work fresh x h w Differ v
+    bind-inside e = is-inside (rw e at d)
+
+    pub bind-binds : (u : List ℕ) (r : Pairing) → b ≡ false → r ≡ one-bound trail work fresh → u ≡ bound-to lay trail x h v → BindChecked file lay stamp trail work fresh x h w r u
+    bind-binds u r e f g = rw (f, g) (binds (rw e at d))
+
+  module _ (r : Pairing) (v : List ℕ) where
+    pub head-unmentioned : fresh ≤ x .0 → r ≡ one-bound trail work fresh → v ≡ bound-to lay trail x h w → BindHead file lay stamp trail work fresh x h w r v
+    head-unmentioned l e f = rw (e, f) (unmentioned l)
+
+    pub head-mentioned : x .0 < fresh → BindChecked file lay stamp trail work fresh x h w r v → BindHead file lay stamp trail work fresh x h w r v
+    head-mentioned l b = mentioned l b
 
 -- ---- functions
-module _ (file : List ℕ) (lay : Layout) (limit trail work f g : ℕ) (s t : Held) (w : List ℕ) where
-  pub functions-differ : (f ≡ g → ⊥) → Functions file lay limit trail work f g s t w Differ w
+module _ (file : List ℕ) (lay : Layout) (limit trail work fresh f g : ℕ) (s t : Held) (w : List ℕ) where
+  pub functions-differ : (f ≡ g → ⊥) → Functions file lay limit trail work fresh f g s t w Differ w
   functions-differ n = unequal n
 
   module _ (n longer : ℕ) (e : f ≡ g) (a : n ≡ byte file (2 * f + 1)) (b : longer ≡ plus work n) where
     same-length : longer ≡ plus work (byte file (2 * f + 1))
     same-length = b ∙ ap (plus work) a
 
-    pub functions-over : limit < longer → Functions file lay limit trail work f g s t w Over w
+    pub functions-over : limit < longer → Functions file lay limit trail work fresh f g s t w Over w
     functions-over h = crowded e (rw same-length at h)
 
-    pub functions-push : (x y : Held) (v : List ℕ) → longer ≤ limit → x ≡ past-kind s 3 → y ≡ past-kind t 3 → v ≡ pushed n work lay x y w → Functions file lay limit trail work f g s t w (Same trail longer) v
+    pub functions-push : (x y : Held) (v : List ℕ) → longer ≤ limit → x ≡ past-kind s 3 → y ≡ past-kind t 3 → v ≡ pushed n work lay x y w → Functions file lay limit trail work fresh f g s t w (Same trail longer fresh) v
     functions-push x y v h p q r = rw (same-length, r, p, q, a) (equal e (rw same-length at h))
 
 -- ---- the front pair
@@ -102,25 +118,26 @@ pub front-read : (file w : List ℕ) (lay : Layout) (trail i : ℕ) (a b : Held)
 unfolding front-of
 front-read file w lay trail i a b g h p q r s = rw (q, p, s, r) refl
 
-module _ (file : List ℕ) (lay : Layout) (limit stamp trail work : ℕ) (g h : Found) (w : List ℕ) where
-  pub compare-one : (x y : CellNumber) (s t : Held) → g ≡ Unbound x s → h ≡ Unbound y t → x .0 ≡ y .0 → Compares file lay limit stamp trail work g h w (Same trail work) w
+module _ (file : List ℕ) (lay : Layout) (limit stamp cells trail work fresh : ℕ) (g h : Found) (w : List ℕ) where
+  pub compare-one : (x y : CellNumber) (s t : Held) → g ≡ Unbound x s → h ≡ Unbound y t → x .0 ≡ y .0 → Compares file lay limit stamp cells trail work fresh g h w (Same trail work fresh) w
   compare-one x y s t a b e = one-variable a b e
 
   module _ (r : Pairing) (v : List ℕ) where
-    pub compare-head : (x y : CellNumber) (s t : Held) → g ≡ Unbound x s → h ≡ Unbound y t → (x .0 ≡ y .0 → ⊥) → BindChecked file lay stamp trail work y s w r v → Compares file lay limit stamp trail work g h w r v
-    compare-head x y s t a b e d = head-variable a b e d
+    pub compare-head : (x y : CellNumber) (s t : Held) → g ≡ Unbound x s → h ≡ Unbound y t → (x .0 ≡ y .0 → ⊥) → r ≡ one-bound trail work fresh → v ≡ bound-to lay trail y s w → Compares file lay limit stamp cells trail work fresh g h w r v
+    compare-head x y s t a b e c d = rw (c, d) (head-variable a b e)
 
-    pub compare-head-free : (f : ℕ) (y : CellNumber) (s t : Held) → g ≡ Function f s → h ≡ Unbound y t → BindChecked file lay stamp trail work y s w r v → Compares file lay limit stamp trail work g h w r v
+    pub compare-head-free : (f : ℕ) (y : CellNumber) (s t : Held) → g ≡ Function f s → h ≡ Unbound y t → BindHead file lay stamp trail work fresh y s w r v → Compares file lay limit stamp cells trail work fresh g h w r v
     compare-head-free f y s t a b d = head-free a b d
 
-    pub compare-goal-free : (e : ℕ) (x : CellNumber) (s t : Held) → g ≡ Unbound x s → h ≡ Function e t → BindChecked file lay stamp trail work x t w r v → Compares file lay limit stamp trail work g h w r v
+    pub compare-goal-free : (e : ℕ) (x : CellNumber) (s t : Held) → g ≡ Unbound x s → h ≡ Function e t → BindChecked file lay stamp trail work cells x t w r v → Compares file lay limit stamp cells trail work fresh g h w r v
     compare-goal-free e x s t a b d = goal-free a b d
 
-    pub compare-both : (e f : ℕ) (s t : Held) → g ≡ Function f s → h ≡ Function e t → Functions file lay limit trail work f e s t w r v → Compares file lay limit stamp trail work g h w r v
+    pub compare-both : (e f : ℕ) (s t : Held) → g ≡ Function f s → h ≡ Function e t → Functions file lay limit trail work fresh f e s t w r v → Compares file lay limit stamp cells trail work fresh g h w r v
     compare-both e f s t a b d = both-applied a b d
 
-pub take-none : (file : List ℕ) (lay : Layout) (limit stamp trail work : ℕ) (w : List ℕ) → work ≡ 0 → TakesPair file lay limit stamp trail work w Differ w
-take-none file lay limit stamp trail work w e = no-pair e
+module _ (file : List ℕ) (lay : Layout) (limit stamp cells trail work fresh : ℕ) (w : List ℕ) where
+  pub take-none : work ≡ 0 → TakesPair file lay limit stamp cells trail work fresh w Differ w
+  take-none e = no-pair e
 
-pub take-front : (file : List ℕ) (lay : Layout) (limit stamp trail work : ℕ) (w v : List ℕ) (k : Front) (r : Pairing) → (work ≡ 0 → ⊥) → k ≡ front-of file w lay trail (work - 1) → Compares file lay limit stamp trail (work - 1) (k .goal) (k .head) w r v → TakesPair file lay limit stamp trail work w r v
-take-front file lay limit stamp trail work w v k r n e d = front n e d
+  pub take-front : (v : List ℕ) (k : Front) (r : Pairing) → (work ≡ 0 → ⊥) → k ≡ front-of file w lay trail (work - 1) → Compares file lay limit stamp cells trail (work - 1) fresh (k .goal) (k .head) w r v → TakesPair file lay limit stamp cells trail work fresh w r v
+  take-front v k r n e d = front n e d

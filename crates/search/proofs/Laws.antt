@@ -96,7 +96,7 @@ unfolding rest-word
 rest-read w lay c a b p q e f g h = rw (f, e, h, g) refl
 
 pub retry-is : (w : List ℕ) (lay : Layout) (m : Regs) (trail c steps prior k : ℕ) (n : Next) (g a d : ℕ) → n ≡ step-next w lay c → g ≡ step-word w lay c 1 → a ≡ step-word w lay c 2 → d ≡ step-word w lay c 5
-    → Try (record { clause = record { 0 = k }; goal = record { 0 = g }; caller = record { 0 = a }; next = n }) (record { cells = d; trail = trail; steps = steps; choice = prior; work = m .work; next = m .next; units = m .units }) ≡ retried w lay m trail c steps prior k
+    → Try (record { clause = record { 0 = k }; goal = record { 0 = g }; caller = record { 0 = a }; next = n }) (record { cells = d; trail = trail; steps = steps; choice = prior; work = m .work; fresh = m .fresh; next = m .next; units = m .units }) ≡ retried w lay m trail c steps prior k
 unfolding retried
 retry-is w lay m trail c steps prior k n g a d e f h i = rw (e, f, h, i) refl
 
@@ -109,7 +109,7 @@ pub back-start : (lay : Layout) (m : Regs) (trail c : ℕ) (w : List ℕ) → Ba
 back-start lay m trail c w = record { rest = λ d u q. q; as-long = refl }
 
 module _ (lay : Layout) (m : Regs) (trail₀ c₀ : ℕ) (w₀ : List ℕ) (trail c : ℕ) (w : List ℕ) (i : Backing lay m trail₀ c₀ w₀ trail c w) where
-  pub back-none : c ≤ 0 → Backs lay m trail₀ c₀ w₀ (Over·due NoMore (record { cells = m .cells; trail = trail; steps = m .steps; choice = 0; work = m .work; next = m .next; units = m .units })) w
+  pub back-none : c ≤ 0 → Backs lay m trail₀ c₀ w₀ (Over·due NoMore (record { cells = m .cells; trail = trail; steps = m .steps; choice = 0; work = m .work; fresh = m .fresh; next = m .next; units = m .units })) w
   back-none h = i .rest _ _ (no-choice h)
 
   module _ (mark : ℕ) (v : List ℕ) (r : Rest) (h : 0 < c) (e : mark ≡ step-word w lay c 6) (f : v ≡ undone trail mark lay w) (g : r ≡ rest-word v lay c) where
@@ -193,7 +193,7 @@ unfolding paired
 pair-up-is lay n t p base w v s h e f g = rw (g, e, f) refl
 
 pub entered-is : (file w : List ℕ) (lay : Layout) (m : Regs) (p b : Place) (variables pairs s c : ℕ) (x : Next) → s ≡ plus (m .steps) 1 → b ≡ place-after w p → x ≡ settled-next file w lay (record { place = b; step = s }) → c ≡ plus (m .cells) variables
-    → _≡_ {A = Regs} (record { cells = c; trail = m .trail; steps = s; choice = s; work = pairs; next = x; units = m .units }) (entered-regs file w lay m p variables pairs)
+    → _≡_ {A = Regs} (record { cells = c; trail = m .trail; steps = s; choice = s; work = pairs; fresh = m .cells; next = x; units = m .units }) (entered-regs file w lay m p variables pairs)
 unfolding entered-regs
 entered-is file w lay m p b variables pairs s c x e f g h = rw (g, f, e, h) refl
 
@@ -213,9 +213,9 @@ module _ (file : List ℕ) (g : Given) (t : Trial) (m : Regs) (w : List ℕ) (x 
   try-fits p variables n d v u f a b = tries (sym e ∙ f) a b
 
 -- ---- the other moves
-module _ (file : List ℕ) (g : Given) (m : Regs) (w v : List ℕ) (x : Pairing) (a : TakesPair file (g .lay) (g .limits .work) (m .units) (m .trail) (m .work) w x v) where
-  pub pair-same : (trail work : ℕ) (d : Due) (u : List ℕ) → x ≡ Same trail work → MatchesOn file (g .lay) (record { cells = m .cells; trail = trail; steps = m .steps; choice = m .choice; work = work; next = m .next; units = m .units }) v d u → MovesPair file g m w d u
-  pair-same trail work d u e b = same (rw e at a) b
+module _ (file : List ℕ) (g : Given) (m : Regs) (w v : List ℕ) (x : Pairing) (a : TakesPair file (g .lay) (g .limits .work) (m .units) (m .cells) (m .trail) (m .work) (m .fresh) w x v) where
+  pub pair-same : (trail work fresh : ℕ) (d : Due) (u : List ℕ) → x ≡ Same trail work fresh → MatchesOn file (g .lay) (record { cells = m .cells; trail = trail; steps = m .steps; choice = m .choice; work = work; fresh = fresh; next = m .next; units = m .units }) v d u → MovesPair file g m w d u
+  pair-same trail work fresh d u e b = same (rw e at a) b
 
   pub pair-differ : (d : Due) (u : List ℕ) → x ≡ Differ → Backs (g .lay) m (m .trail) (m .choice) v d u → MovesPair file g m w d u
   pair-differ d u e b = differ (rw e at a) b
@@ -233,20 +233,20 @@ kept-before w lay choice zero v n e = absurd (n refl)
 kept-before w lay choice (suc i) v n e = e
 
 pub cut-is : (file : List ℕ) (lay : Layout) (m : Regs) (w v : List ℕ) (d : Due) (q c : ℕ) (x : Next) → q ≡ ahead (m .next .place .0) 1 → c ≡ kept-of w lay (m .choice) (m .next .step) → x ≡ settled-next file w lay (record { place = record { 0 = q }; step = m .next .step })
-    → GoesOn file lay (record { cells = m .cells; trail = m .trail; steps = m .steps; choice = c; work = m .work; next = x; units = m .units }) w d v → MovesCut file lay m w d v
+    → GoesOn file lay (record { cells = m .cells; trail = m .trail; steps = m .steps; choice = c; work = m .work; fresh = m .fresh; next = x; units = m .units }) w d v → MovesCut file lay m w d v
 unfolding cut-regs
 cut-is file lay m w v d q c x e f g h = cuts {d = d} {v = v} (rw (← f, ← e, ← g) h)
 
 module _ (file : List ℕ) (g : Given) (wanted : ℕ) (w : List ℕ) (n q : ℕ) (e : n ≡ byte file (g .query .0 + 1)) (f : q ≡ ahead (g .query .0) 3) where
-  first-regs : _≡_ {A = Regs} (record { cells = n; trail = 0; steps = 0; choice = 0; work = 0; next = record { place = record { 0 = q }; step = 0 }; units = 0 }) (start-regs file g)
+  first-regs : _≡_ {A = Regs} (record { cells = n; trail = 0; steps = 0; choice = 0; work = 0; fresh = 0; next = record { place = record { 0 = q }; step = 0 }; units = 0 }) (start-regs file g)
   unfolding start-regs
   first-regs = rw (e, f) refl
 
-  pub start-none : wanted ≡ 0 → Starts file g wanted w (Over·due Wanted (record { cells = n; trail = 0; steps = 0; choice = 0; work = 0; next = record { place = record { 0 = q }; step = 0 }; units = 0 })) w
+  pub start-none : wanted ≡ 0 → Starts file g wanted w (Over·due Wanted (record { cells = n; trail = 0; steps = 0; choice = 0; work = 0; fresh = 0; next = record { place = record { 0 = q }; step = 0 }; units = 0 })) w
   start-none z = rw first-regs (none-wanted z)
 
-  pub start-few : (wanted ≡ 0 → ⊥) → g .limits .cells < n → Starts file g wanted w (Over·due Cells (record { cells = n; trail = 0; steps = 0; choice = 0; work = 0; next = record { place = record { 0 = q }; step = 0 }; units = 0 })) w
+  pub start-few : (wanted ≡ 0 → ⊥) → g .limits .cells < n → Starts file g wanted w (Over·due Cells (record { cells = n; trail = 0; steps = 0; choice = 0; work = 0; fresh = 0; next = record { place = record { 0 = q }; step = 0 }; units = 0 })) w
   start-few z h = rw first-regs (few-cells z (rw e at h))
 
-  pub start-starts : (v u : List ℕ) (d : Due) → (wanted ≡ 0 → ⊥) → n ≤ g .limits .cells → v ≡ freed n 0 (g .lay) w → GoesOn file (g .lay) (record { cells = n; trail = 0; steps = 0; choice = 0; work = 0; next = record { place = record { 0 = q }; step = 0 }; units = 0 }) v d u → Starts file g wanted w d u
+  pub start-starts : (v u : List ℕ) (d : Due) → (wanted ≡ 0 → ⊥) → n ≤ g .limits .cells → v ≡ freed n 0 (g .lay) w → GoesOn file (g .lay) (record { cells = n; trail = 0; steps = 0; choice = 0; work = 0; fresh = 0; next = record { place = record { 0 = q }; step = 0 }; units = 0 }) v d u → Starts file g wanted w d u
   start-starts v u d z h i j = starts z (rw e at h) (rw (first-regs, i, e) at j)

@@ -43,13 +43,15 @@ pub struct Next {
     pub step: u32,
 }
 
-// Where a run is: cells taken, bindings, steps, the latest choice (a step from 1; 0 is none), pairs to match, the open goals, units spent.
+// Where a run is: cells taken, bindings, steps, the latest choice (a step from 1; 0 is none), pairs to match, the first cell that no value
+// and no goal side of a pair mentions, the open goals, units spent.
 pub struct Regs {
     pub cells: u32,
     pub trail: u32,
     pub steps: u32,
     pub choice: u32,
     pub work: u32,
+    pub fresh: u32,
     pub next: Next,
     pub units: u32,
 }
@@ -337,6 +339,7 @@ fn entered(
         steps: step,
         choice: step,
         work: pairs,
+        fresh: m.cells,
         next,
         ..m
     }
@@ -377,8 +380,28 @@ pub fn move_pair(file: &[u8], w: &mut [u32], g: Given, m: Regs) -> Due
 {
     let lay = g.lay;
     let limits = g.limits;
-    match take_pair(file, w, lay, limits.work, m.units, m.trail, m.work) {
-        Pairing::Same(trail, work) => match_on(file, w, lay, Regs { trail, work, ..m }),
+    match take_pair(
+        file,
+        w,
+        lay,
+        limits.work,
+        m.units,
+        m.cells,
+        m.trail,
+        m.work,
+        m.fresh,
+    ) {
+        Pairing::Same(trail, work, fresh) => match_on(
+            file,
+            w,
+            lay,
+            Regs {
+                trail,
+                work,
+                fresh,
+                ..m
+            },
+        ),
         Pairing::Differ => back(w, lay, m),
         Pairing::Over => Due::Over(End::Work, m),
     }
@@ -423,6 +446,7 @@ pub fn start(file: &[u8], w: &mut [u32], g: Given, wanted: u32) -> Due
         steps: 0,
         choice: 0,
         work: 0,
+        fresh: 0,
         next: Next {
             place: Place(on(q.0, 3)),
             step: 0,
