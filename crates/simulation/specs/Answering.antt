@@ -93,10 +93,11 @@ pub answer-is : (X : Setting) (wanted room : ℕ) (n : Derivation) → answer (X
 unfolding answer
 answer-is X wanted room n = refl
 
--- what the answer that was written is: it fits or stops as the definition's, its bytes are in the output, and the run is as it was
+-- what the answer that was written is: it fits or stops as the definition's, its bytes are in the output or none is, and the run is as it was
 pub record Answered (X : Setting) (w : List ℕ) (m : Regs) (n : Derivation) (cs : List Choice) (o : List ℕ) (r : Wrote) (v p : List ℕ) : Type 0 where
   pub fit : fit-of r ≡ fitting (length o) (X .limits .work) 0 (pieces (answer-of X n))
   pub wrote : (k : ℕ) → r ≡ Bytes k → (k ≡ length (bytes (answer-of X n))) × (p ≡ bytes (answer-of X n) ++ drop (length (bytes (answer-of X n))) o)
+  pub kept : (e : ℕ) → fit-of r ≡ stops e → p ≡ o
   pub aside : Aside X w v
   pub stands : Run X v m n cs
 
@@ -245,6 +246,7 @@ module _ (X : Setting) (w : List ℕ) (m : Regs) (n : Derivation) (cs : List Cho
   stopped {e = e} r s f a = record {
     fit = s ∙ sym f;
     wrote = λ k b. let c : fits ≡ stops e = sym (ap fit-of b) ∙ s in let z : _≡_ {A = ℕ} 0 1 = cc in absurd (omega arith);
+    kept = λ i b. refl;
     aside = a;
     stands = run-aside X a (known .sound) (known .store) run;
   }
@@ -266,6 +268,7 @@ module _ (X : Setting) (w : List ℕ) (m : Regs) (n : Derivation) (cs : List Cho
       record {
         fit = sym (first-fits o small ∙ f (tail (n .steps)) ∙ tail-fits (length o) W (t .size) (n .steps) (omega arith));
         wrote = λ k g. let c : t .size + last-size (m .steps) ≡ k = cc in (omega arith, x .0 ∙ sets-eq (bytes (answer-of X n)) o 0 (omega arith) ∙ ap (λ (j : ℕ). bytes (answer-of X n) ++ drop j o) i);
+        kept = λ i g. let z : _≡_ {A = ℕ} 0 1 = cc in absurd (omega arith);
         aside = x .1;
         stands = run-aside X (x .1) (known .sound) (known .store) run;
       }
