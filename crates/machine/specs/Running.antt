@@ -72,6 +72,23 @@ pub data Moves (file : List ℕ) (g : Given) (budget wanted : ℕ) : Due → Wri
   lists : {m : Regs} {t s : Written} {d : Due} {w o v p : List ℕ} → Lists file g wanted m t w o d s v p → Moves file g budget wanted (Answer m) t w o d s v p
   is-over : {e : End} {m : Regs} {t : Written} {w o : List ℕ} → Moves file g budget wanted (Over e m) t w o (Over e m) t w o
 
+-- the pairs of a head are matched in turn, each for a unit, up to the move that comes to something else
+pub data MatchesPairs (file : List ℕ) (g : Given) (budget : ℕ) : Regs → List ℕ → Due → List ℕ → Type 0 where
+  too-late : {m : Regs} {w : List ℕ} → budget ≤ m .units → MatchesPairs file g budget m w (Over Budget m) w
+  last-pair : {m : Regs} {d : Due} {w v : List ℕ} → m .units < budget → MovesPair file g (spent m) w d v → MatchesPairs file g budget m w d v
+  next-pair : {m n : Regs} {d : Due} {w v u : List ℕ} → m .units < budget → MovesPair file g (spent m) w (Pair n) v → MatchesPairs file g budget n v d u → MatchesPairs file g budget m w d u
+
+-- a head is tried, and its pairs are matched
+pub data TriesPairs (file : List ℕ) (g : Given) (budget : ℕ) (x : Trial) (m : Regs) (w : List ℕ) : Due → List ℕ → Type 0 where
+  no-pairs : {d : Due} {v : List ℕ} → TriesHead file g x m w d v → TriesPairs file g budget x m w d v
+  then-pairs : {n : Regs} {d : Due} {v u : List ℕ} → TriesHead file g x m w (Pair n) v → MatchesPairs file g budget n v d u → TriesPairs file g budget x m w d u
+
+-- one move, or all moves of a head
+pub data Turns (file : List ℕ) (g : Given) (budget wanted : ℕ) : Due → Written → List ℕ → List ℕ → Due → Written → List ℕ → List ℕ → Type 0 where
+  one : {d n : Due} {t s : Written} {w o v p : List ℕ} → Moves file g budget wanted d t w o n s v p → Turns file g budget wanted d t w o n s v p
+  heads : {x : Trial} {m : Regs} {d : Due} {t : Written} {w o v : List ℕ} → m .units < budget → TriesPairs file g budget x (spent m) w d v → Turns file g budget wanted (Try x m) t w o d t v o
+  pairs : {m : Regs} {d : Due} {t : Written} {w o v : List ℕ} → MatchesPairs file g budget m w d v → Turns file g budget wanted (Pair m) t w o d t v o
+
 -- from what is due to the end
 pub data RunsFrom (file : List ℕ) (g : Given) (budget wanted : ℕ) : Due → Written → List ℕ → List ℕ → Outcome → List ℕ → List ℕ → Type 0 where
   stops : {d : Due} {t : Written} {w o : List ℕ} → going-on d ≡ false → RunsFrom file g budget wanted d t w o (ended-of d t) w o

@@ -1,4 +1,6 @@
 // A run: from what is due to what is due next, until it is over.
+use crate::heads::match_pairs;
+use crate::heads::try_head;
 use answers::Wrote;
 use answers::answer;
 use meaning::End;
@@ -9,16 +11,14 @@ use search::Given;
 use search::Regs;
 use search::back;
 use search::move_cut;
-use search::move_pair;
 use search::start;
-use search::try_head;
 use words::add;
 use words::byte_after;
 use words::on;
 ghost use mathlib.Core.Path.{_≡_};
 ghost use Prim.Native.Nat.{_≤_};
 ghost use lib.ListN.{length};
-ghost use Rattle.machine.specs.Running.{spent, going-on, over-of, ended-of, behind-of, WritesBehind, Lists, Moves, Runs};
+ghost use Rattle.machine.specs.Running.{spent, going-on, over-of, ended-of, behind-of, WritesBehind, Lists, Turns, Runs};
 
 // What has been written: answers, and bytes of output.
 pub struct Written {
@@ -116,8 +116,8 @@ fn list(
     }
 }
 
-// The move that is due, one unit being left for it, or the answer.
-fn one_move(
+// What is due is done: a head with its pairs, as far as units are left for them, a cut, or an answer.
+fn one_turn(
     file: &[u8],
     w: &mut [u32],
     out: &mut [u8],
@@ -127,7 +127,7 @@ fn one_move(
     d: Due,
     t: Written,
 ) -> Turn
-    ensures { λ r. ⌜ Moves (now (file .entry)) g budget wanted d t (now (w .entry)) (now (out .entry)) (r .due) (r .written) (now (w .exit)) (now (out .exit)) ⌝ }
+    ensures { λ r. ⌜ Turns (now (file .entry)) g budget wanted d t (now (w .entry)) (now (out .entry)) (r .due) (r .written) (now (w .exit)) (now (out .exit)) ⌝ }
 {
     match d {
         Due::Try(x, m) => {
@@ -138,22 +138,14 @@ fn one_move(
                 };
             }
             Turn {
-                due: try_head(file, w, g, x, spend(m)),
+                due: try_head(file, w, g, budget, x, spend(m)),
                 written: t,
             }
         }
-        Due::Pair(m) => {
-            if budget <= m.units {
-                return Turn {
-                    due: Due::Over(End::Budget, m),
-                    written: t,
-                };
-            }
-            Turn {
-                due: move_pair(file, w, g, spend(m)),
-                written: t,
-            }
-        }
+        Due::Pair(m) => Turn {
+            due: match_pairs(file, w, g, budget, m),
+            written: t,
+        },
         Due::Cut(m) => {
             if budget <= m.units {
                 return Turn {
@@ -229,7 +221,7 @@ pub fn run(
         bytes: 0,
     };
     while going(d) {
-        let n = one_move(file, w, out, g, budget, wanted, d, t);
+        let n = one_turn(file, w, out, g, budget, wanted, d, t);
         d = n.due;
         t = n.written;
     }

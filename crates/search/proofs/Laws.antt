@@ -20,11 +20,9 @@ use Rattle.words.specs.Words.{plus, ahead}
 use Rattle.cells.specs.Cells.{undone, freed}
 use Rattle.cells.specs.declared.Held.{Held}
 use Rattle.cells.specs.declared.Layout.{Layout}
-use Rattle.matching.specs.Matching.{put-four, word-of-place, place-after, past-kind, pushed, TakesPair}
-use Rattle.matching.specs.declared.Pairing.{Pairing}
-use Rattle.matching.specs.declared.Pairing.the-variants.{Same, Differ, Over}
+use Rattle.matching.specs.Matching.{put-four, word-of-place, place-after, past-kind, pushed}
 use Rattle.search.specs.Search.{step-word, step-next, settled-next, clause-place-word, clause-next-word, below-of, rest-word, retried, Backs, no-choice, retries, pops}
-use Rattle.search.specs.Search.{trial-of, Calls, no-clause, first-clause, GoesOn, a-cut, no-goal, a-goal, MatchesOn, matched, more, step-put, room-of, arity-at, paired, entered-regs, entered-words, Enters, enters, TriesHead, over-cells, over-steps, tries, MovesPair, same, differ, over-work, kept-of, cut-regs, MovesCut, cuts, start-regs, Starts, none-wanted, few-cells, starts}
+use Rattle.search.specs.Search.{trial-of, Calls, no-clause, first-clause, GoesOn, a-cut, no-goal, a-goal, step-put, room-of, arity-at, paired, entered-regs, entered-words, Enters, enters, kept-of, cut-regs, MovesCut, cuts, start-regs, Starts, none-wanted, few-cells, starts}
 use Rattle.search.specs.declared.Limits.{Limits}
 use Rattle.search.specs.declared.Given.{Given}
 use Rattle.search.specs.declared.Next.{Next}
@@ -155,12 +153,6 @@ module _ (file : List ℕ) (lay : Layout) (m : Regs) (w : List ℕ) (k : ℕ) (e
   pub go-goal : (d : Due) (v : List ℕ) → k ≡ 6 → Calls file lay m (m .next) w d v → GoesOn file lay m w d v
   go-goal d v t c = a-goal (sym e ∙ t) c
 
-pub match-done : (file : List ℕ) (lay : Layout) (m : Regs) (w v : List ℕ) (d : Due) → m .work ≡ 0 → GoesOn file lay m w d v → MatchesOn file lay m w d v
-match-done file lay m w v d e g = matched e g
-
-pub match-more : (file : List ℕ) (lay : Layout) (m : Regs) (w : List ℕ) → (m .work ≡ 0 → ⊥) → MatchesOn file lay m w (Pair m) w
-match-more file lay m w n = more n
-
 -- ---- trying a head
 pub step-is-put : (lay : Layout) (t : Trial) (m : Regs) (w v u : List ℕ) (x y : ℕ) → x ≡ word-of-place (t .goal) → y ≡ word-of-place (t .next .place) → v ≡ put-four w (lay .steps + 8 * m .steps) (t .clause .0) x (t .caller .0) y
     → u ≡ put-four v (lay .steps + 8 * m .steps + 4) (t .next .step) (m .cells) (m .trail) (m .choice) → u ≡ step-put lay t m w
@@ -202,27 +194,7 @@ pub enter-is : (file : List ℕ) (g : Given) (t : Trial) (m : Regs) (p : Place) 
 unfolding entered-words
 enter-is file g t m p variables w a b v n r e f h i j = rw (j, i, f, e, h) enters
 
-module _ (file : List ℕ) (g : Given) (t : Trial) (m : Regs) (w : List ℕ) (x : Room) (e : x ≡ room-of file w g (t .clause) m) where
-  pub try-cells : x ≡ Room-cells → TriesHead file g t m w (Over·due Cells m) w
-  try-cells f = over-cells (sym e ∙ f)
-
-  pub try-steps : x ≡ Room-steps → TriesHead file g t m w (Over·due Steps m) w
-  try-steps f = over-steps (sym e ∙ f)
-
-  pub try-fits : (p : Place) (variables : ℕ) (n : Regs) (d : Due) (v u : List ℕ) → x ≡ Fits p variables → Enters file g t m p variables w n v → MatchesOn file (g .lay) n v d u → TriesHead file g t m w d u
-  try-fits p variables n d v u f a b = tries (sym e ∙ f) a b
-
 -- ---- the other moves
-module _ (file : List ℕ) (g : Given) (m : Regs) (w v : List ℕ) (x : Pairing) (a : TakesPair file (g .lay) (g .limits .work) (m .units) (m .cells) (m .trail) (m .work) (m .fresh) w x v) where
-  pub pair-same : (trail work fresh : ℕ) (d : Due) (u : List ℕ) → x ≡ Same trail work fresh → MatchesOn file (g .lay) (record { cells = m .cells; trail = trail; steps = m .steps; choice = m .choice; work = work; fresh = fresh; next = m .next; units = m .units }) v d u → MovesPair file g m w d u
-  pair-same trail work fresh d u e b = same (rw e at a) b
-
-  pub pair-differ : (d : Due) (u : List ℕ) → x ≡ Differ → Backs (g .lay) m (m .trail) (m .choice) v d u → MovesPair file g m w d u
-  pair-differ d u e b = differ (rw e at a) b
-
-  pub pair-over : x ≡ Over → MovesPair file g m w (Over·due Work m) v
-  pair-over e = over-work (rw e at a)
-
 pub kept-all : (w : List ℕ) (lay : Layout) (choice step : ℕ) → step ≡ 0 → choice ≡ kept-of w lay choice step
 unfolding kept-of
 kept-all w lay choice step e = rw e refl
