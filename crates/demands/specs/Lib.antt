@@ -3,6 +3,8 @@ pub mod Cases
 pub mod Proofs
 pub mod Demands
 pub mod GoodFiles
+pub mod Faults
+pub mod Rooms
 pub mod TermLaws
 pub mod StoreLaws
 pub mod WellLaws

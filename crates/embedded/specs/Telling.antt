@@ -2,14 +2,16 @@
 -- Assumes nothing.
 use Prim.Native.Nat.{ℕ, _+_, _*_, _%_, _^_, _≤_, _<_}
 use mathlib.Core.Path.{_≡_}
-use mathlib.Core.List.{List, _++_}
-use lib.ListN.{length, set, take, drop, replicate}
-use Rattle.meaning.specs.Embedded.{embedded-scratch, room-limit}
-use Rattle.meaning.specs.Outcome.{Said, refused-as, ended-as, says}
+use mathlib.Core.List.{List}
+use lib.Dec.{ltb}
+use lib.ListN.{length, set}
+use Rattle.meaning.specs.If.{if_then_else_}
+use Rattle.meaning.specs.Call.{Result, refusal, result, needed, output-after, scratch-after}
+use Rattle.meaning.specs.Embedded.{embedded, embedded-limits, embedded-scratch, packed}
+use Rattle.meaning.specs.Outcome.{Said, refused-as, ended-as, says, to-say}
 use Rattle.meaning.specs.declared.Outcome.{Outcome}
-use Rattle.meaning.specs.declared.Outcome.the-variants.{Refused}
 use Rattle.search.specs.declared.Limits.{Limits}
-use Rattle.machine.specs.Calling.{Called}
+use Rattle.machine.specs.Calling.{limits-of, result-of}
 
 -- four words, from an index on; those that the result does not hold are left out
 unfoldable pub told-four : ℕ → ℕ → ℕ → ℕ → ℕ → List ℕ → List ℕ
@@ -24,10 +26,13 @@ unfoldable pub told : Said → List ℕ → List ℕ
 told (refused-as n p) result = told-all n p 0 0 0 result
 told (ended-as e answers units bytes) result = told-all e 0 answers units bytes result
 
-pub data CallTells (file : List ℕ) (l : Limits) (budget wanted : ℕ) (w o result : List ℕ) : List ℕ → List ℕ → List ℕ → Type 0 where
-  tells : {r : Outcome} {v p : List ℕ} → Called file l budget wanted w o r v p → CallTells file l budget wanted w o result v p (told (says r) result)
+-- the whole call: what is in scratch, in the output and in the result after it
+pub record CallTells (file : List ℕ) (l : Limits) (budget wanted : ℕ) (w o r v p s : List ℕ) : Type 0 where
+  pub scratch : v ≡ scratch-after (result-of file l budget wanted w o) (needed (length file) (limits-of l)) w
+  pub output : p ≡ output-after (result-of file l budget wanted w o) o
+  pub words : s ≡ told (to-say (result-of file l budget wanted w o)) r
 
--- "end or refusal in the upper half; in the lower the bytes written after an end, the place after a refusal"
+-- an outcome as one number; place and bytes by their remainders, which are place and bytes themselves
 unfoldable pub packed-said : Said → ℕ
 packed-said (refused-as n p) = n * 2 ^ 32 + p % 2 ^ 32
 packed-said (ended-as e answers units bytes) = e * 2 ^ 32 + bytes % 2 ^ 32
@@ -35,16 +40,18 @@ packed-said (ended-as e answers units bytes) = e * 2 ^ 32 + bytes % 2 ^ 32
 unfoldable pub packed-of : Outcome → ℕ
 packed-of r = packed-said (says r)
 
--- "C 1,000, S 400, W 200"
-abbrev pub own-limits : Limits
-own-limits = record { cells = 1_000; steps = 400; work = 200 }
+-- the embedded form where all of the output counts as room
+unfoldable pub embedded-in : List ℕ → ℕ → ℕ → ℕ → Result
+embedded-in file budget wanted room =
+    let good : Result = result file embedded-limits budget wanted embedded-scratch room in
+    if ltb 4_000 (length file) then refusal 2 0 else
+    good
 
--- "16,064 words filled with zero, for F up to 4,000 (else refusal 2)"
-pub data EmbedRuns (file : List ℕ) (budget wanted : ℕ) (o : List ℕ) : Outcome → List ℕ → Type 0 where
-  too-long : 4_000 < length file → EmbedRuns file budget wanted o (Refused 2 (record { 0 = 0 })) o
-  own-scratch : {r : Outcome} {v p : List ℕ} → length file ≤ 4_000 → Called file own-limits budget wanted (replicate embedded-scratch 0) o r v p → EmbedRuns file budget wanted o r p
+pub record EmbedRuns (file : List ℕ) (budget wanted : ℕ) (o : List ℕ) (r : Outcome) (p : List ℕ) : Type 0 where
+  pub outcome : says r ≡ to-say (embedded-in file budget wanted (length o))
+  pub output : p ≡ output-after (embedded-in file budget wanted (length o)) o
 
--- "Of the output at most 4,000,000,000 bytes count as room"
-pub data EmbedTells (file : List ℕ) (budget wanted : ℕ) (o : List ℕ) : ℕ → List ℕ → Type 0 where
-  all-room : {r : Outcome} {p : List ℕ} → length o ≤ room-limit → EmbedRuns file budget wanted o r p → EmbedTells file budget wanted o (packed-of r) p
-  some-room : {r : Outcome} {p : List ℕ} → room-limit < length o → EmbedRuns file budget wanted (take room-limit o) r p → EmbedTells file budget wanted o (packed-of r) (p ++ drop room-limit o)
+-- the embedded form: its packed number, and what is in the output after it
+pub record EmbedTells (file : List ℕ) (budget wanted : ℕ) (o : List ℕ) (n : ℕ) (p : List ℕ) : Type 0 where
+  pub number : n ≡ packed (embedded file budget wanted (length o))
+  pub output : p ≡ output-after (embedded file budget wanted (length o)) o

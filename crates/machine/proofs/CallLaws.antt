@@ -1,12 +1,13 @@
 -- What the whole call's tests and parts say.
 -- Assumes nothing.
 use Prim.Native.Nat.{ℕ, zero, suc, _+_, _-_, _*_, _^_, _≤_, _<_}
-use mathlib.Core.Path.{_≡_, refl, sym, ap, _∙_}
+use mathlib.Core.Path.{_≡_, refl, sym, ap, ap₂, _∙_, subst}
 use mathlib.Core.Bool.{Bool, true, false, _&&_, not, false≢true}
-use mathlib.Core.List.{List, _++_}
+use mathlib.Core.List.{List, _++_, append-nil}
 use native.Mathlib.Omega.{arith}
 use lib.Dec.{leb, ltb}
-use lib.ListN.{length, drop, set, replicate, length-set}
+use lib.ListN.{length, take, drop, set, replicate, length-set}
+use lib.Seq.{length-take-le, drop-length}
 use borrow.Author.Tests.{lt-ltb, le-ltb, le-leb, lt-leb}
 use borrow.Author.Fill.{fill-none, fill-more}
 use Rattle.laws.specs.IfLaws.{if-true, if-false}
@@ -14,7 +15,10 @@ use Rattle.meaning.specs.If.{if_then_else_}
 use Rattle.meaning.specs.Kinds.{file-limit}
 use Rattle.meaning.specs.Rules.{Rules}
 use Rattle.meaning.specs.Reading.{Read, refused, read, parse}
-use Rattle.meaning.specs.Call.{Result, refusal, result, run-read, in-range, needed}
+use Rattle.meaning.specs.Moves.{Done, run, start}
+use Rattle.meaning.specs.Call.{Result, refusal, end, result, ending, run-read, in-range, needed, output-after, scratch-after}
+use Rattle.meaning.specs.Outcome.{says, to-say, refused-as}
+use Rattle.meaning.specs.Answers.{output}
 use Rattle.meaning.specs.declared.Place.{Place}
 use Rattle.meaning.specs.declared.Outcome.{Outcome}
 use Rattle.meaning.specs.declared.Outcome.the-variants.{Refused}
@@ -27,10 +31,16 @@ use Rattle.reading.specs.Verdict.{verdict}
 use Rattle.layout.specs.Stood.{good-files-stand, good-files-fit}
 use Rattle.tables.specs.Stood.{tables-fit}
 use Rattle.tables.specs.Here.{CanLay, HasLaid}
-use Rattle.simulation.specs.Rep.{layout-of}
+use Rattle.tables.specs.Tabling.{laid-tabled}
+use Rattle.tables.specs.Laid.{laid}
+use Rattle.layout.specs.Tables.{Tabled}
+use Rattle.layout.specs.Lengths.{query-place}
+use Rattle.simulation.specs.Rep.{Setting, Base, layout-of}
+use Rattle.simulation.specs.Trying.{given-of as given-for}
 use Rattle.simulation.specs.Ranges.{in-range-is}
 use Rattle.machine.specs.Running.{Runs}
-use Rattle.machine.specs.Calling.{limits-of, allowed, given-of, wiped, Tested, Can, RunsRead, runs-read, Called, refuses, ends}
+use Rattle.machine.specs.Calling.{limits-of, allowed, given-of, Tested, Can, RunsGood, result-of, Called}
+use Rattle.machine.proofs.RunLaws.{Came, run-comes}
 
 -- ---- the run limits
 module _ (l : Limits) where
@@ -71,28 +81,30 @@ pub given-is : (F : ℕ) (l : Limits) (functions predicates : ℕ) (query : Plac
 unfolding given-of layout-of
 given-is F l functions predicates query = refl
 
--- ---- the needed words become zero
-pub record Wiping (count : ℕ) (w₀ : List ℕ) (i : ℕ) (w : List ℕ) : Type 0 where
-  pub low : i ≤ count
-  pub enough : count ≤ length w₀
+-- ---- all words become zero
+pub record Wiping (w₀ : List ℕ) (n i : ℕ) (w : List ℕ) : Type 0 where
+  pub all : n ≡ length w₀
+  pub low : i ≤ n
   pub as-long : length w ≡ length w₀
   pub is : w ≡ replicate i 0 ++ drop i w₀
 
-pub wiping-start : (count : ℕ) (w : List ℕ) → count ≤ length w → Wiping count w 0 w
-wiping-start count w h = record { low = omega arith; enough = h; as-long = refl; is = fill-none w 0 }
+pub wiping-start : (w : List ℕ) → Wiping w (length w) 0 w
+wiping-start w = record { all = refl; low = omega arith; as-long = refl; is = fill-none w 0 }
 
-module _ (count : ℕ) (w₀ : List ℕ) (i : ℕ) (w : List ℕ) (a : Wiping count w₀ i w) where
-  pub wiping-again : i < count → Wiping count w₀ (i + 1) (set w i 0)
+module _ (w₀ : List ℕ) (n i : ℕ) (w : List ℕ) (a : Wiping w₀ n i w) where
+  pub wiping-again : i < n → Wiping w₀ n (i + 1) (set w i 0)
   wiping-again h =
-      let l = a .as-long in let e = a .enough in
-      record { low = omega arith; enough = e; as-long = simp length-set l; is = ap (λ (x : List ℕ). set x i 0) (a .is) ∙ fill-more i 0 w₀ (omega arith) }
+      let l = a .as-long in let e = a .all in
+      record { all = e; low = omega arith; as-long = simp length-set l; is = ap (λ (x : List ℕ). set x i 0) (a .is) ∙ fill-more i 0 w₀ (omega arith) }
 
-  pub wiping-end : count ≤ i → w ≡ wiped count w₀
-  unfolding wiped
-  wiping-end h = let l = a .low in let e : i ≡ count = omega arith in rw e at (a .is)
+  pub wiping-end : n ≤ i → w ≡ replicate (length w₀) 0
+  wiping-end h =
+      let l = a .low in let q = a .all in
+      let e : i ≡ length w₀ = omega arith in
+      a .is ∙ ap (λ (k : ℕ). replicate k 0 ++ drop k w₀) e ∙ ap (replicate (length w₀) 0 ++_) (drop-length w₀) ∙ append-nil (replicate (length w₀) 0)
 
-  pub wiping-within : i < count → i < length w
-  wiping-within h = let l = a .as-long in let e = a .enough in omega arith
+  pub wiping-within : i < n → i < length w
+  wiping-within h = let l = a .as-long in let e = a .all in omega arith
 
 -- ---- a good file
 counts-of : Checked → Counts
@@ -154,13 +166,49 @@ module _ (file : List ℕ) (l : Limits) (c : Counts) (w : List ℕ) (a : Can fil
   pub few-steps : l .steps ≤ 60_000
   few-steps = in-limits-are .1
 
-  pub needed-words : (v u : List ℕ) (n : ℕ) → length v ≡ length w → length u ≡ length v → n ≡ needed (length file) (limits-of l) → n ≤ length u
-  needed-words v u n d e f = let h = a .tested .enough in omega arith
+-- ---- a run of a good file
+given-at : (F : ℕ) (l : Limits) (f p f′ p′ x : ℕ) (query : Place) → f′ ≡ f → p′ ≡ p → query .0 ≡ x → given-of F l f p query ≡ given-of F l f′ p′ (record { 0 = x })
+given-at F l f p f′ p′ x query d e g = rw (d, e, ← g) refl
 
-pub run-is-read : (file : List ℕ) (l : Limits) (budget wanted : ℕ) (c : Counts) (w o : List ℕ) (query : Place) (v u q x : List ℕ) (g : Given) (r : Outcome) (n : ℕ)
-    → HasLaid file w query v → g ≡ given-of (length file) l (c .functions) (c .predicates) query → Runs file g budget wanted v o r u q → n ≡ needed (length file) (limits-of l) → x ≡ wiped n u
-    → RunsRead file l budget wanted c w o r x q
-run-is-read file l budget wanted c w o query v u q x g r n a b d e f = rw (f, e) (runs-read a (rw b at d))
+module _ (file : List ℕ) (l : Limits) (c : Counts) (w : List ℕ) (a : Can file l c w) where
+  -- what the run stands on
+  setting : Setting
+  setting = let y = can-lay file l c w a in
+      record { file = file; rules = y .rules; limits = limits-of l; seen = y .seen; end = y .end; good = y .good; short = a .tested .short; in-limits = a .tested .in-limits }
+
+  given-same : (query : Place) → query .0 ≡ query-place (setting .rules) → given-of (length file) l (c .functions) (c .predicates) query ≡ given-for setting
+  unfolding given-of given-for setting
+  given-same query e = let y = can-lay file l c w a in given-at (length file) l (c .functions) (c .predicates) _ _ _ query (y .functions-are) (y .predicates-are) e
+
+  tables-are : (query : Place) (v : List ℕ) → HasLaid file w query v → length v ≡ length w → Base setting v
+  unfolding setting
+  tables-are query v h e =
+      let y = can-lay file l c w a in
+      let t = a .tested .enough in
+      record { long = omega arith; tabled = subst (Tabled (length file) (y .rules)) (sym (h .words (y .rules) (y .seen) (y .end) (y .good))) (laid-tabled file (y .rules) (y .seen) (y .end) (y .good) w (room file l c w a)) }
+
+  module _ (budget wanted : ℕ) (o : List ℕ) where
+    abbrev ran : ℕ × Done
+    ran = run (setting .rules) (limits-of l) wanted (length o) budget (start (setting .rules) (limits-of l) wanted (length o))
+
+    run-is : run-read (parse file) (limits-of l) budget wanted (length o) ≡ ending ran
+    unfolding run-read setting
+    run-is = let y = can-lay file l c w a in ap (λ (x : Read Rules). run-read x (limits-of l) budget wanted (length o)) (y .good)
+
+    pub run-is-good : (query : Place) (g : Given) (v u q : List ℕ) (r : Outcome) → wanted < 2 ^ 32 → budget < 2 ^ 32 → length o * 1 < 2 ^ 63 → HasLaid file w query v → length v ≡ length w
+        → g ≡ given-of (length file) l (c .functions) (c .predicates) query → Runs file g budget wanted v o r u q → RunsGood file l budget wanted o r q
+    unfolding setting ending to-say output-after
+    run-is-good query g v u q r most limit small h d f t =
+        let p : query .0 ≡ query-place (setting .rules) = (let y = can-lay file l c w a in h .place (y .rules) (y .seen) (y .end) (y .good)) in
+        let k : Came setting wanted o (omega arith) most budget limit r q ran = run-comes setting wanted o (omega arith) most budget limit (tables-are query v h d) (rw (f, given-same query p) at t) in
+        record {
+          outcome = k .outcome ∙ ap to-say (sym run-is);
+          bytes = k .output-is ∙ ap (λ (s : Result). output-after s o) (sym run-is);
+        }
+
+-- the words that were lent are all zero
+pub wiped-all : (w u v : List ℕ) → length u ≡ length w → v ≡ replicate (length u) 0 → v ≡ replicate (length w) 0
+wiped-all w u v e z = z ∙ ap (λ (n : ℕ). replicate n 0) e
 
 not-false : (b : Bool) → not b ≡ false → b ≡ true
 not-false true e = refl
@@ -171,10 +219,19 @@ module _ (file : List ℕ) (l : Limits) (budget wanted : ℕ) (w o : List ℕ) w
   abbrev good : Result
   good = run-read (parse file) (limits-of l) budget wanted (length o)
 
+  -- a refusal leaves everything as it was
+  refuses : (n : ℕ) (p : Place) → result-of file l budget wanted w o ≡ refusal n (p .0) → Called file l budget wanted w o (Refused n p) w o
+  unfolding says to-say scratch-after output-after
+  refuses n p e = record {
+    outcome = ap to-say (sym e);
+    words = ap (λ (x : Result). scratch-after x (needed (length file) (limits-of l)) w) (sym e);
+    bytes = ap (λ (x : Result). output-after x o) (sym e);
+  }
+
   module _ (b : Bool) (e : b ≡ allowed l) where
     pub call-limits : not b ≡ true → Called file l budget wanted w o (Refused 1 (record { 0 = 0 })) w o
     unfolding result
-    call-limits f = refuses (if-true (not (in-range (limits-of l))) (refusal 1 0) _ (sym (ap not e) ∙ f))
+    call-limits f = refuses 1 _ (if-true (not (in-range (limits-of l))) (refusal 1 0) _ (sym (ap not e) ∙ f))
 
     module _ (f : not b ≡ false) where
       no-limits : {r : Result} (s : Result) → s ≡ r → (if not (in-range (limits-of l)) then refusal 1 0 else s) ≡ r
@@ -182,7 +239,7 @@ module _ (file : List ℕ) (l : Limits) (budget wanted : ℕ) (w o : List ℕ) w
 
       pub call-long : 60_000 < length file → Called file l budget wanted w o (Refused 2 (record { 0 = 0 })) w o
       unfolding result
-      call-long h = let z = limit-is in refuses (no-limits _ (if-true (ltb file-limit (length file)) (refusal 2 0) _ (lt-ltb file-limit (length file) (omega arith))))
+      call-long h = let z = limit-is in refuses 2 _ (no-limits _ (if-true (ltb file-limit (length file)) (refusal 2 0) _ (lt-ltb file-limit (length file) (omega arith))))
 
       module _ (h : length file ≤ 60_000) (n : ℕ) (k : n ≡ needed (length file) (limits-of l)) where
         not-long : {r : Result} (s : Result) → s ≡ r → (if ltb file-limit (length file) then refusal 2 0 else s) ≡ r
@@ -190,29 +247,57 @@ module _ (file : List ℕ) (l : Limits) (budget wanted : ℕ) (w o : List ℕ) w
 
         pub call-scratch : length w < n → Called file l budget wanted w o (Refused 3 (record { 0 = 0 })) w o
         unfolding result
-        call-scratch q = refuses (no-limits _ (not-long _ (if-true (ltb (length w) (needed (length file) (limits-of l))) (refusal 3 0) _ (lt-ltb (length w) (needed (length file) (limits-of l)) (omega arith)))))
+        call-scratch q = refuses 3 _ (no-limits _ (not-long _ (if-true (ltb (length w) (needed (length file) (limits-of l))) (refusal 3 0) _ (lt-ltb (length w) (needed (length file) (limits-of l)) (omega arith)))))
 
         pub call-tested : n ≤ length w → Tested file l w
         call-tested q = let z = limit-is in record { in-limits = sym e ∙ not-false b f; short = omega arith; enough = omega arith }
 
   -- a file whose tests have passed
-  module _ (a : Tested file l w) (x : Checked) (y : x ≡ verdict (parse file)) where
-    pub read-can : (c : Counts) → x ≡ Good c → Can file l c w
-    read-can c g = record { tested = a; good = sym y ∙ g }
-
-    pub read-ends : (c : Counts) (r : Outcome) (v p : List ℕ) → x ≡ Good c → RunsRead file l budget wanted c w o r v p → Called file l budget wanted w o r v p
-    read-ends c r v p g t = ends (read-can c g) t
-
-    refused-read : (m : ℕ) (p : Place) (r : Read Rules) → verdict r ≡ Refused·checked m p → run-read r (limits-of l) budget wanted (length o) ≡ refusal m (p .0)
-    unfolding verdict run-read refusal-of
-    refused-read m p (refused n k) g = ap refusal-of g
-    refused-read m p (read R seen at) g = absurd (refused-good (sym g))
-
-    pub read-refuses : (m : ℕ) (p : Place) → x ≡ Refused·checked m p → Called file l budget wanted w o (Refused m p) w o
+  module _ (a : Tested file l w) where
+    read-result : result-of file l budget wanted w o ≡ good
     unfolding result
-    read-refuses m p g =
+    read-result =
         let t = a .in-limits in
-        refuses
-        (no-limits (in-range (limits-of l)) refl (ap not t) _
+        no-limits (in-range (limits-of l)) refl (ap not t) _
         (not-long (in-range (limits-of l)) refl (ap not t) (a .short) (needed (length file) (limits-of l)) refl _
-        (if-false (ltb (length w) (needed (length file) (limits-of l))) (refusal 3 0) good (le-ltb (length w) (needed (length file) (limits-of l)) (a .enough)) ∙ refused-read m p (parse file) (sym y ∙ g))))
+        (if-false (ltb (length w) (needed (length file) (limits-of l))) (refusal 3 0) good (le-ltb (length w) (needed (length file) (limits-of l)) (a .enough))))
+
+    module _ (x : Checked) (y : x ≡ verdict (parse file)) where
+      pub read-can : (c : Counts) → x ≡ Good c → Can file l c w
+      read-can c g = record { tested = a; good = sym y ∙ g }
+
+      refused-read : (m : ℕ) (p : Place) (r : Read Rules) → verdict r ≡ Refused·checked m p → run-read r (limits-of l) budget wanted (length o) ≡ refusal m (p .0)
+      unfolding verdict run-read refusal-of
+      refused-read m p (refused n k) g = ap refusal-of g
+      refused-read m p (read R seen at) g = absurd (refused-good (sym g))
+
+      pub read-refuses : (m : ℕ) (p : Place) → x ≡ Refused·checked m p → Called file l budget wanted w o (Refused m p) w o
+      read-refuses m p g = refuses m p (read-result ∙ refused-read m p (parse file) (sym y ∙ g))
+
+  -- a good file has been run in the words that it needs
+  module _ (c : Counts) (a : Can file l c w) (n : ℕ) (k : n ≡ needed (length file) (limits-of l)) where
+    pub part-within : n ≤ length w
+    part-within = let h = a .tested .enough in omega arith
+
+    pub part-long : n ≡ length (take n w)
+    part-long = sym (length-take-le n w part-within)
+
+    pub part-can : Can file l c (take n w)
+    part-can = let p = part-long in record { tested = record { in-limits = a .tested .in-limits; short = a .tested .short; enough = omega arith }; good = a .good }
+
+    run-ends : (r : Read Rules) → verdict r ≡ Good c → (b : ℕ × Done) → run-read r (limits-of l) budget wanted (length o) ≡ ending b → scratch-after (run-read r (limits-of l) budget wanted (length o)) n w ≡ replicate n 0 ++ drop n w
+    unfolding ending scratch-after
+    run-ends r g b e = rw e refl
+
+    pub part-run : (r : Outcome) (v q : List ℕ) → RunsGood file l budget wanted o r q → v ≡ replicate (length (take n w)) 0 → Called file l budget wanted w o r (v ++ drop n w) q
+    part-run r v q b z =
+        let e = read-result (a .tested) in
+        let p = part-long in
+        record {
+          outcome = b .outcome ∙ ap to-say (sym e);
+          words =
+              ap (_++ drop n w) (z ∙ ap (λ (i : ℕ). replicate i 0) (sym p))
+              ∙ sym (run-ends (parse file) (a .good) _ (run-is file l c w a budget wanted o))
+              ∙ ap₂ (λ (x : Result) (i : ℕ). scratch-after x i w) (sym e) k;
+          bytes = b .bytes ∙ ap (λ (x : Result). output-after x o) (sym e);
+        }

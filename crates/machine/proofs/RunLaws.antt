@@ -22,6 +22,7 @@ use Rattle.meaning.specs.declared.Outcome.{Outcome}
 use Rattle.laws.specs.IfLaws.{if-by, if-true, if-false}
 use Rattle.demands.specs.Proofs.{Each, WellFormed}
 use Rattle.demands.specs.GoodFiles.{good-files-are-well-formed}
+use Rattle.demands.specs.Rooms.{output-last, fits-within}
 use Rattle.demands.specs.Ways.{GoodAt}
 use Rattle.demands.specs.Searches.{GoodChoice, GoodChoices, Holds, start-holds, move-holds, spent as spent-holds}
 use Rattle.layout.specs.Lengths.{query-place}
@@ -50,28 +51,6 @@ use Rattle.simulation.specs.Spending.{later, later-at, later-try, later-marks}
 use Rattle.simulation.specs.Starting.{start-comes}
 use Rattle.machine.specs.declared.run.Written.{Written}
 use Rattle.machine.specs.Running.{spent, behind-of, going-on, over-of, ended-of, WritesBehind, written-behind, Lists, no-output, last-wanted, goes-back, full, crowded, Moves, try-late, pair-late, cut-late, tries-one, pairs-one, cuts-one, lists, is-over, RunsFrom, stops as stops-here, onward, nothing-yet, Runs, runs}
-
--- ---- bytes
-output-last : (xs : List Answer) (a : Answer) → output (xs ++ a ∷ []) ≡ output xs ++ bytes a
-unfolding output
-output-last [] a = append-nil (bytes a)
-output-last (x ∷ xs) a = ap (bytes x ++_) (output-last xs a) ∙ sym (append-assoc (bytes x) (output xs) (bytes a))
-
--- an answer that fits is no longer than the room
-fits-within : (room W size : ℕ) (ps : List Piece) → size ≤ room → fitting room W size ps ≡ fits → size + length (bytes-of ps) ≤ room
-unfolding fitting bytes-of
-fits-within room W size [] h e = omega arith
-fits-within room W size (piece b d ∷ ps) h e =
-    let G : Fit → Type 0 = λ f. f ≡ fits → size + length (b ++ bytes-of ps) ≤ room in
-    if-by G (ltb room (size + length b)) (λ p q. absurd (never 26 q))
-    (λ p. if-by G (ltb W d) (λ r q. absurd (never 25 q))
-    (λ r q.
-    let k = fits-within room W (size + length b) ps (ltb-false _ _ p) q in
-    let l = length-append b (bytes-of ps) in
-    omega arith)) e
-  where
-    never : (n : ℕ) → stops n ≡ fits → ⊥
-    never n q = let z : _≡_ {A = ℕ} 0 1 = cc in omega arith
 
 module _ (X : Setting) (wanted : ℕ) (o₀ : List ℕ) (small : length o₀ < 2 ^ 63) (most : wanted < 2 ^ 32) where
   -- what has been written is what was done: the answers stand in the output, one after another

@@ -1,25 +1,23 @@
--- What the whole call does: it refuses as the definition says, or runs the good file and leaves the needed scratch zero.
+-- What the whole call does, for every input: what the definition says.
 -- Assumes nothing.
 use Prim.Native.Nat.{ℕ, _≤_}
 use mathlib.Core.Path.{_≡_}
 use mathlib.Core.Bool.{Bool, true}
-use mathlib.Core.List.{List, _++_}
-use lib.ListN.{length, drop, replicate}
+use mathlib.Core.List.{List}
+use lib.ListN.{length}
 use Rattle.meaning.specs.Kinds.{file-limit}
 use Rattle.meaning.specs.Moves.{Limits as Limits·defined}
 use Rattle.meaning.specs.Reading.{parse}
-use Rattle.meaning.specs.Call.{result, refusal, in-range, needed}
+use Rattle.meaning.specs.Call.{Result, result, run-read, in-range, needed, output-after, scratch-after}
+use Rattle.meaning.specs.Outcome.{says, to-say}
 use Rattle.meaning.specs.declared.Place.{Place}
 use Rattle.meaning.specs.declared.Outcome.{Outcome}
-use Rattle.meaning.specs.declared.Outcome.the-variants.{Refused}
 use Rattle.search.specs.declared.Limits.{Limits}
 use Rattle.search.specs.declared.Given.{Given}
 use Rattle.reading.specs.declared.Counts.{Counts}
 use Rattle.reading.specs.declared.Checked.the-variants.{Good}
 use Rattle.reading.specs.Verdict.{verdict}
-use Rattle.tables.specs.Here.{HasLaid}
 use Rattle.simulation.specs.Rep.{layout-of}
-use Rattle.machine.specs.Running.{Runs}
 
 -- the run limits, as the definition has them
 abbrev pub limits-of : Limits → Limits·defined
@@ -32,9 +30,6 @@ allowed l = in-range (limits-of l)
 unfoldable pub given-of : ℕ → Limits → ℕ → ℕ → Place → Given
 given-of F l functions predicates query = record { lay = layout-of F predicates (l .cells) (l .steps); limits = l; functions = functions; query = query }
 
-unfoldable pub wiped : ℕ → List ℕ → List ℕ
-wiped count w = replicate count 0 ++ drop count w
-
 -- what the call tests before it reads the file
 pub record Tested (file : List ℕ) (l : Limits) (w : List ℕ) : Type 0 where
   pub in-limits : allowed l ≡ true
@@ -46,12 +41,17 @@ pub record Can (file : List ℕ) (l : Limits) (c : Counts) (w : List ℕ) : Type
   pub tested : Tested file l w
   pub good : verdict (parse file) ≡ Good c
 
--- its tables are laid out, it is run, and the needed words are zero
-pub data RunsRead (file : List ℕ) (l : Limits) (budget wanted : ℕ) (c : Counts) (w o : List ℕ) : Outcome → List ℕ → List ℕ → Type 0 where
-  runs-read : {query : Place} {v u q : List ℕ} {r : Outcome} → HasLaid file w query v → Runs file (given-of (length file) l (c .functions) (c .predicates) query) budget wanted v o r u q
-      → RunsRead file l budget wanted c w o r (wiped (needed (length file) (limits-of l)) u) q
+-- a good file is run: what the run says, and the output after it
+pub record RunsGood (file : List ℕ) (l : Limits) (budget wanted : ℕ) (o : List ℕ) (r : Outcome) (q : List ℕ) : Type 0 where
+  pub outcome : says r ≡ to-say (run-read (parse file) (limits-of l) budget wanted (length o))
+  pub bytes : q ≡ output-after (run-read (parse file) (limits-of l) budget wanted (length o)) o
 
--- the whole call
-pub data Called (file : List ℕ) (l : Limits) (budget wanted : ℕ) (w o : List ℕ) : Outcome → List ℕ → List ℕ → Type 0 where
-  refuses : {n p : ℕ} → result file (limits-of l) budget wanted (length w) (length o) ≡ refusal n p → Called file l budget wanted w o (Refused n (record { 0 = p })) w o
-  ends : {c : Counts} {r : Outcome} {v q : List ℕ} → Can file l c w → RunsRead file l budget wanted c w o r v q → Called file l budget wanted w o r v q
+-- the result that the definition gives
+abbrev pub result-of : List ℕ → Limits → ℕ → ℕ → List ℕ → List ℕ → Result
+result-of file l budget wanted w o = result file (limits-of l) budget wanted (length w) (length o)
+
+-- the whole call: what it says, and what is in scratch and in the output after it
+pub record Called (file : List ℕ) (l : Limits) (budget wanted : ℕ) (w o : List ℕ) (r : Outcome) (v q : List ℕ) : Type 0 where
+  pub outcome : says r ≡ to-say (result-of file l budget wanted w o)
+  pub words : v ≡ scratch-after (result-of file l budget wanted w o) (needed (length file) (limits-of l)) w
+  pub bytes : q ≡ output-after (result-of file l budget wanted w o) o

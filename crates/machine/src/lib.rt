@@ -14,9 +14,9 @@ use search::Limits;
 use tables::lay;
 ghost use mathlib.Core.Path.{_≡_};
 ghost use Prim.Native.Nat.{_≤_};
-ghost use lib.ListN.{length};
+ghost use lib.ListN.{length, replicate};
 ghost use Rattle.meaning.specs.Call.{needed};
-ghost use Rattle.machine.specs.Calling.{allowed, given-of, wiped, limits-of, Tested, Can, RunsRead, Called};
+ghost use Rattle.machine.specs.Calling.{allowed, given-of, limits-of, Tested, Can, RunsGood, Called};
 
 // The longest file.
 const FILE: usize = 60000;
@@ -80,17 +80,53 @@ fn given(length: u32, l: Limits, functions: u32, predicates: u32, query: Place) 
     }
 }
 
-// The words that were needed are zero.
-fn wipe(w: &mut [u32], count: usize)
-    requires { ⌜ count ≤ length (now w) ⌝ }
-    ensures { λ _. ⌜ now (w .exit) ≡ wiped count (now (w .entry)) ⌝ }
+// All words become zero.
+fn wipe(w: &mut [u32])
+    ensures { λ _. ⌜ now (w .exit) ≡ replicate (length (now (w .entry))) 0 ⌝ }
 {
-    for i in 0..count {
+    for i in 0..w.len() {
         w[i] = 0;
     }
 }
 
-// A good file is run.
+// The tables of a good file are laid out, and it is run.
+fn run_laid(
+    file: &[u8],
+    l: Limits,
+    budget: u32,
+    wanted: u32,
+    c: Counts,
+    w: &mut [u32],
+    out: &mut [u8],
+) -> Outcome
+    requires { ⌜ Can (now file) l c (now w) ⌝ }
+    ensures { λ r. ⌜ RunsGood (now (file .entry)) l budget wanted (now (out .entry)) r (now (out .exit)) ⌝ }
+{
+    let query = lay(file, w, c.functions, c.predicates, c.clauses);
+    let g = given(file.len() as u32, l, c.functions, c.predicates, query);
+    run(file, w, out, g, budget, wanted)
+}
+
+// A good file is run in the words that are lent, which are zero then.
+fn run_in(
+    file: &[u8],
+    l: Limits,
+    budget: u32,
+    wanted: u32,
+    c: Counts,
+    w: &mut [u32],
+    out: &mut [u8],
+) -> Outcome
+    requires { ⌜ Can (now file) l c (now w) ⌝ }
+    ensures runs { λ r. ⌜ RunsGood (now (file .entry)) l budget wanted (now (out .entry)) r (now (out .exit)) ⌝ }
+    ensures wipes { λ r. ⌜ now (w .exit) ≡ replicate (length (now (w .entry))) 0 ⌝ }
+{
+    let r = run_laid(file, l, budget, wanted, c, w, out);
+    wipe(w);
+    r
+}
+
+// A good file is run in the words that it needs; the rest of scratch stays.
 fn run_read(
     file: &[u8],
     l: Limits,
@@ -101,13 +137,10 @@ fn run_read(
     out: &mut [u8],
 ) -> Outcome
     requires { ⌜ Can (now file) l c (now w) ⌝ }
-    ensures { λ r. ⌜ RunsRead (now (file .entry)) l budget wanted c (now (w .entry)) (now (out .entry)) r (now (w .exit)) (now (out .exit)) ⌝ }
+    ensures { λ r. ⌜ Called (now (file .entry)) l budget wanted (now (w .entry)) (now (out .entry)) r (now (w .exit)) (now (out .exit)) ⌝ }
 {
-    let query = lay(file, w, c.functions, c.predicates, c.clauses);
-    let g = given(file.len() as u32, l, c.functions, c.predicates, query);
-    let r = run(file, w, out, g, budget, wanted);
-    wipe(w, words_needed(file.len(), l));
-    r
+    let count = words_needed(file.len(), l);
+    run_in(file, l, budget, wanted, c, &mut w[..count], out)
 }
 
 // The file is read forward; a good one is run.

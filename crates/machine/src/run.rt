@@ -1,6 +1,7 @@
 // A run: from what is due to what is due next, until it is over.
-use crate::heads::match_pairs;
-use crate::heads::try_head;
+use crate::heads::move_pairs;
+use crate::heads::spend;
+use crate::heads::try_heads;
 use answers::Wrote;
 use answers::answer;
 use meaning::End;
@@ -18,7 +19,7 @@ use words::on;
 ghost use mathlib.Core.Path.{_≡_};
 ghost use Prim.Native.Nat.{_≤_};
 ghost use lib.ListN.{length};
-ghost use Rattle.machine.specs.Running.{spent, going-on, over-of, ended-of, behind-of, WritesBehind, Lists, Turns, Runs};
+ghost use Rattle.machine.specs.Running.{going-on, over-of, ended-of, behind-of, WritesBehind, Lists, Turns, Runs};
 
 // What has been written: answers, and bytes of output.
 pub struct Written {
@@ -30,16 +31,6 @@ pub struct Written {
 pub struct Turn {
     pub due: Due,
     pub written: Written,
-}
-
-// A unit is spent.
-fn spend(m: Regs) -> Regs
-    ensures { λ r. ⌜ r ≡ spent m ⌝ }
-{
-    Regs {
-        units: add(m.units, 1),
-        ..m
-    }
 }
 
 // An answer is behind what has been written.
@@ -116,7 +107,7 @@ fn list(
     }
 }
 
-// What is due is done: a head with its pairs, as far as units are left for them, a cut, or an answer.
+// What is due is done: heads and their pairs, a cut, or an answer.
 fn one_turn(
     file: &[u8],
     w: &mut [u32],
@@ -130,20 +121,12 @@ fn one_turn(
     ensures { λ r. ⌜ Turns (now (file .entry)) g budget wanted d t (now (w .entry)) (now (out .entry)) (r .due) (r .written) (now (w .exit)) (now (out .exit)) ⌝ }
 {
     match d {
-        Due::Try(x, m) => {
-            if budget <= m.units {
-                return Turn {
-                    due: Due::Over(End::Budget, m),
-                    written: t,
-                };
-            }
-            Turn {
-                due: try_head(file, w, g, budget, x, spend(m)),
-                written: t,
-            }
-        }
+        Due::Try(m, x) => Turn {
+            due: try_heads(file, w, g, budget, m, x),
+            written: t,
+        },
         Due::Pair(m) => Turn {
-            due: match_pairs(file, w, g, budget, m),
+            due: move_pairs(file, w, g, budget, m),
             written: t,
         },
         Due::Cut(m) => {
@@ -197,7 +180,7 @@ fn ended(d: Due, t: Written) -> Outcome
 {
     match d {
         Due::Over(e, m) => over(e, m, t),
-        Due::Try(_, m) => over(End::Budget, m, t),
+        Due::Try(m, _) => over(End::Budget, m, t),
         Due::Pair(m) => over(End::Budget, m, t),
         Due::Cut(m) => over(End::Budget, m, t),
         Due::Answer(m) => over(End::Budget, m, t),

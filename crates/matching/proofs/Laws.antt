@@ -1,10 +1,11 @@
 -- What each return and each turn of a loop of matching says.
 -- Assumes nothing.
-use Prim.Native.Nat.{ℕ, zero, suc, _+_, _-_, _*_, _%_, _≤_, _<_}
+use Prim.Native.Nat.{ℕ, zero, suc, _+_, _-_, _*_, _%_, _^_, _≤_, _<_}
 use mathlib.Core.Path.{_≡_, refl, sym, ap, _∙_}
 use mathlib.Core.Bool.{Bool, true, false}
 use mathlib.Core.List.{List}
 use native.Mathlib.Omega.{arith}
+use native.Mathlib.Nat.{mod-eq-of-lt}
 use lib.ListN.{length, getD, set, length-set}
 use Rattle.meaning.specs.Reading.{byte}
 use Rattle.meaning.specs.declared.Place.{Place}
@@ -15,10 +16,12 @@ use Rattle.cells.specs.declared.Held.{Held}
 use Rattle.cells.specs.declared.Found.{Found}
 use Rattle.cells.specs.declared.Found.the-variants.{Unbound, Function}
 use Rattle.cells.specs.declared.Layout.{Layout}
-use Rattle.matching.specs.Matching.{put-four, held-at, place-after, word-of-place, pushed, past-kind, bound-to, one-bound, BindChecked, is-inside, binds, BindHead, unmentioned, mentioned, Functions, unequal, crowded, equal, front-of, Compares, one-variable, head-variable, head-free, goal-free, both-applied, TakesPair, no-pair, front}
+use Rattle.matching.specs.Matching.{put-four, held-at, place-after, word-of-place, pushed, past-kind, bound-to, one-bound, BindChecked, is-inside, binds, BindHead, unmentioned, mentioned, Functions, unequal, crowded, equal, front-of, Compares, one-variable, head-variable, head-free, goal-free, both-applied, TakesPair, no-pair, front, MatchesPairs, late, differed, crowded-out, matched-all, next-pair, came-out}
 use Rattle.matching.specs.declared.Pairing.{Pairing}
 use Rattle.matching.specs.declared.Pairing.the-variants.{Same, Differ, Over}
 use Rattle.matching.specs.declared.Front.{Front}
+use Rattle.matching.specs.declared.Came.the-variants.{Matched, Differed, Crowded, Late}
+use Rattle.matching.specs.declared.Matched.{Matched as Matched·pairs}
 
 pub put-four-is : (w₀ w₁ w₂ w₃ w₄ : List ℕ) (at i j k a b c d : ℕ) → w₁ ≡ set w₀ at a → i ≡ ahead at 1 → w₂ ≡ set w₁ i b → j ≡ ahead at 2 → w₃ ≡ set w₂ j c → k ≡ ahead at 3 → w₄ ≡ set w₃ k d → w₄ ≡ put-four w₀ at a b c d
 unfolding put-four
@@ -141,3 +144,34 @@ module _ (file : List ℕ) (lay : Layout) (limit stamp cells trail work fresh : 
 
   pub take-front : (v : List ℕ) (k : Front) (r : Pairing) → (work ≡ 0 → ⊥) → k ≡ front-of file w lay trail (work - 1) → Compares file lay limit stamp cells trail (work - 1) fresh (k .goal) (k .head) w r v → TakesPair file lay limit stamp cells trail work fresh w r v
   take-front v k r n e d = front n e d
+
+-- ---- the pairs of a head: what is left to match comes to the same
+pub record Matching (file : List ℕ) (lay : Layout) (limit budget cells trail₀ work₀ fresh₀ units₀ : ℕ) (w₀ : List ℕ) (trail work fresh units : ℕ) (w : List ℕ) : Type 0 where
+  pub rest : (r : Matched·pairs) (u : List ℕ) → MatchesPairs file lay limit budget cells trail work fresh units w r u → MatchesPairs file lay limit budget cells trail₀ work₀ fresh₀ units₀ w₀ r u
+  pub as-long : length w ≡ length w₀
+
+pub match-start : (file : List ℕ) (lay : Layout) (limit budget cells trail work fresh units : ℕ) (w : List ℕ) → Matching file lay limit budget cells trail work fresh units w trail work fresh units w
+match-start file lay limit budget cells trail work fresh units w = record { rest = λ d u a. a; as-long = refl }
+
+module _ (file : List ℕ) (lay : Layout) (limit budget cells trail₀ work₀ fresh₀ units₀ : ℕ) (w₀ : List ℕ) (trail work fresh units : ℕ) (w : List ℕ) (i : Matching file lay limit budget cells trail₀ work₀ fresh₀ units₀ w₀ trail work fresh units w) where
+  pub match-late : budget ≤ units → MatchesPairs file lay limit budget cells trail₀ work₀ fresh₀ units₀ w₀ (came-out Late trail work fresh units) w
+  match-late h = i .rest _ _ (late h)
+
+  module _ (h : units < budget) (unit : ℕ) (e : unit ≡ plus units 1) where
+    pub match-less : budget < 2 ^ 32 → budget - unit < budget - units
+    unfolding plus
+    match-less b = let z : (units + 1) % 2 ^ 32 ≡ units + 1 = mod-eq-of-lt (omega arith) in rw (e, z) (omega arith)
+
+    module _ (x : Pairing) (v : List ℕ) (a : TakesPair file lay limit unit cells trail work fresh w x v) where
+      pub match-differed : x ≡ Differ → MatchesPairs file lay limit budget cells trail₀ work₀ fresh₀ units₀ w₀ (came-out Differed trail work fresh unit) v
+      match-differed f = i .rest _ _ (rw e (differed h (rw (f, e) at a)))
+
+      pub match-crowded : x ≡ Over → MatchesPairs file lay limit budget cells trail₀ work₀ fresh₀ units₀ w₀ (came-out Crowded trail work fresh unit) v
+      match-crowded f = i .rest _ _ (rw e (crowded-out h (rw (f, e) at a)))
+
+      module _ (t k n : ℕ) (f : x ≡ Same t k n) where
+        pub match-all : k ≡ 0 → MatchesPairs file lay limit budget cells trail₀ work₀ fresh₀ units₀ w₀ (came-out Matched t k n unit) v
+        match-all z = i .rest _ _ (rw e (matched-all h (rw (f, e) at a) z))
+
+        pub match-again : (k ≡ 0 → ⊥) → length v ≡ length w → Matching file lay limit budget cells trail₀ work₀ fresh₀ units₀ w₀ t k n unit v
+        match-again z l = record { rest = λ r u b. i .rest r u (next-pair h (rw (f, e) at a) z (rw e at b)); as-long = l ∙ i .as-long }

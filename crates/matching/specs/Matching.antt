@@ -17,6 +17,9 @@ use Rattle.cells.specs.declared.Layout.{Layout}
 use Rattle.matching.specs.declared.Pairing.{Pairing}
 use Rattle.matching.specs.declared.Pairing.the-variants.{Same, Differ, Over}
 use Rattle.matching.specs.declared.Front.{Front}
+use Rattle.matching.specs.declared.Came.{Came}
+use Rattle.matching.specs.declared.Came.the-variants.{Matched, Differed, Crowded, Late}
+use Rattle.matching.specs.declared.Matched.{Matched as Matched·pairs}
 
 -- four words in a row
 unfoldable pub put-four : List ℕ → ℕ → ℕ → ℕ → ℕ → ℕ → List ℕ
@@ -82,3 +85,18 @@ pub data Compares (file : List ℕ) (lay : Layout) (limit stamp cells trail work
 pub data TakesPair (file : List ℕ) (lay : Layout) (limit stamp cells trail work fresh : ℕ) (w : List ℕ) : Pairing → List ℕ → Type 0 where
   no-pair : work ≡ 0 → TakesPair file lay limit stamp cells trail work fresh w Differ w
   front : {k : Front} {r : Pairing} {v : List ℕ} → (work ≡ 0 → ⊥) → k ≡ front-of file w lay trail (work - 1) → Compares file lay limit stamp cells trail (work - 1) fresh (k .goal) (k .head) w r v → TakesPair file lay limit stamp cells trail work fresh w r v
+
+abbrev pub came-out : Came → ℕ → ℕ → ℕ → ℕ → Matched·pairs
+came-out c trail work fresh units = record { came = c; trail = trail; work = work; fresh = fresh; units = units }
+
+-- the pairs are taken in turn, each for a unit, up to the one that decides
+pub data MatchesPairs (file : List ℕ) (lay : Layout) (limit budget cells : ℕ) : ℕ → ℕ → ℕ → ℕ → List ℕ → Matched·pairs → List ℕ → Type 0 where
+  late : {trail work fresh units : ℕ} {w : List ℕ} → budget ≤ units → MatchesPairs file lay limit budget cells trail work fresh units w (came-out Late trail work fresh units) w
+  differed : {trail work fresh units : ℕ} {w v : List ℕ} → units < budget → TakesPair file lay limit (plus units 1) cells trail work fresh w Differ v
+      → MatchesPairs file lay limit budget cells trail work fresh units w (came-out Differed trail work fresh (plus units 1)) v
+  crowded-out : {trail work fresh units : ℕ} {w v : List ℕ} → units < budget → TakesPair file lay limit (plus units 1) cells trail work fresh w Over v
+      → MatchesPairs file lay limit budget cells trail work fresh units w (came-out Crowded trail work fresh (plus units 1)) v
+  matched-all : {trail work fresh units t k f : ℕ} {w v : List ℕ} → units < budget → TakesPair file lay limit (plus units 1) cells trail work fresh w (Same t k f) v → k ≡ 0
+      → MatchesPairs file lay limit budget cells trail work fresh units w (came-out Matched t k f (plus units 1)) v
+  next-pair : {trail work fresh units t k f : ℕ} {w v u : List ℕ} {r : Matched·pairs} → units < budget → TakesPair file lay limit (plus units 1) cells trail work fresh w (Same t k f) v → (k ≡ 0 → ⊥)
+      → MatchesPairs file lay limit budget cells t k f (plus units 1) v r u → MatchesPairs file lay limit budget cells trail work fresh units w r u

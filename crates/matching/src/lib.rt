@@ -14,7 +14,7 @@ use words::on;
 use words::put;
 ghost use mathlib.Core.Path.{_≡_};
 ghost use Prim.Native.Nat.{_+_, _*_, _-_};
-ghost use Rattle.matching.specs.Matching.{put-four, held-at, place-after, word-of-place, pushed, past-kind, bound-to, one-bound, BindChecked, BindHead, Functions, front-of, Compares, TakesPair};
+ghost use Rattle.matching.specs.Matching.{put-four, held-at, place-after, word-of-place, pushed, past-kind, bound-to, one-bound, BindChecked, BindHead, Functions, front-of, Compares, TakesPair, MatchesPairs};
 
 // Sets four words in a row.
 pub fn put_four(w: &mut [u32], at: usize, a: u32, b: u32, c: u32, d: u32)
@@ -257,4 +257,86 @@ pub fn take_pair(
     let g = front.goal;
     let h = front.head;
     compare(file, w, lay, limit, stamp, cells, trail, rest, fresh, g, h)
+}
+
+// How the pairs of a head came out: it matched, it did not, its list went over W, or the units were spent.
+pub enum Came {
+    Matched,
+    Differed,
+    Crowded,
+    Late,
+}
+
+// That, and what the matching had come to: bindings, pairs left, the first cell that no goal mentions, units spent.
+pub struct Matched {
+    pub came: Came,
+    pub trail: u32,
+    pub work: u32,
+    pub fresh: u32,
+    pub units: u32,
+}
+
+// The pairs are taken in turn, each for a unit.
+pub fn match_pairs(
+    file: &[u8],
+    w: &mut [u32],
+    lay: Layout,
+    limit: u32,
+    budget: u32,
+    cells: u32,
+    bindings: u32,
+    pairs: u32,
+    first: u32,
+    spent: u32,
+) -> Matched
+    ensures { λ r. ⌜ MatchesPairs (now (file .entry)) lay limit budget cells bindings pairs first spent (now (w .entry)) r (now (w .exit)) ⌝ }
+{
+    let mut trail = bindings;
+    let mut work = pairs;
+    let mut fresh = first;
+    let mut units = spent;
+    while units < budget {
+        units = add(units, 1);
+        match take_pair(file, w, lay, limit, units, cells, trail, work, fresh) {
+            Pairing::Same(t, k, f) => {
+                trail = t;
+                work = k;
+                fresh = f;
+                if work == 0 {
+                    return Matched {
+                        came: Came::Matched,
+                        trail,
+                        work,
+                        fresh,
+                        units,
+                    };
+                }
+            }
+            Pairing::Differ => {
+                return Matched {
+                    came: Came::Differed,
+                    trail,
+                    work,
+                    fresh,
+                    units,
+                };
+            }
+            Pairing::Over => {
+                return Matched {
+                    came: Came::Crowded,
+                    trail,
+                    work,
+                    fresh,
+                    units,
+                };
+            }
+        }
+    }
+    Matched {
+        came: Came::Late,
+        trail,
+        work,
+        fresh,
+        units,
+    }
 }

@@ -94,7 +94,7 @@ unfolding rest-word
 rest-read w lay c a b p q e f g h = rw (f, e, h, g) refl
 
 pub retry-is : (w : List ℕ) (lay : Layout) (m : Regs) (trail c steps prior k : ℕ) (n : Next) (g a d : ℕ) → n ≡ step-next w lay c → g ≡ step-word w lay c 1 → a ≡ step-word w lay c 2 → d ≡ step-word w lay c 5
-    → Try (record { clause = record { 0 = k }; goal = record { 0 = g }; caller = record { 0 = a }; next = n }) (record { cells = d; trail = trail; steps = steps; choice = prior; work = m .work; fresh = m .fresh; next = m .next; units = m .units }) ≡ retried w lay m trail c steps prior k
+    → Try (record { cells = d; trail = trail; steps = steps; choice = prior; work = m .work; fresh = m .fresh; next = m .next; units = m .units }) (record { clause = record { 0 = k }; goal = record { 0 = g }; caller = record { 0 = a }; next = n }) ≡ retried w lay m trail c steps prior k
 unfolding retried
 retry-is w lay m trail c steps prior k n g a d e f h i = rw (e, f, h, i) refl
 
@@ -137,7 +137,7 @@ module _ (file : List ℕ) (lay : Layout) (m : Regs) (n : Next) (w : List ℕ) (
   pub call-none : (d : Due) (u : List ℕ) → v ≡ 0 → Backs lay m (m .trail) (m .choice) w d u → Calls file lay m n w d u
   call-none d u z b = no-clause (sym first-word ∙ z) b
 
-  pub call-first : (t : Trial) → (v ≡ 0 → ⊥) → t ≡ trial-of file w lay n (v - 1) → Calls file lay m n w (Try t m) w
+  pub call-first : (t : Trial) → (v ≡ 0 → ⊥) → t ≡ trial-of file w lay n (v - 1) → Calls file lay m n w (Try m t) w
   call-first t z g = rw g (first-clause (sym first-word ∙ one-more v z))
     where
       one-more : (v : ℕ) → (v ≡ 0 → ⊥) → v ≡ suc (v - 1)

@@ -62,8 +62,8 @@ rest-word w lay c = record { prior = below-of (step-word w lay c 7) c; clause = 
 unfoldable pub retried : List ℕ → Layout → Regs → ℕ → ℕ → ℕ → ℕ → ℕ → Due
 retried w lay m trail c steps prior k =
     Try
-    (record { clause = record { 0 = k }; goal = record { 0 = step-word w lay c 1 }; caller = record { 0 = step-word w lay c 2 }; next = step-next w lay c })
     (record { cells = step-word w lay c 5; trail = trail; steps = steps; choice = prior; work = m .work; fresh = m .fresh; next = m .next; units = m .units })
+    (record { clause = record { 0 = k }; goal = record { 0 = step-word w lay c 1 }; caller = record { 0 = step-word w lay c 2 }; next = step-next w lay c })
 
 -- going back from the choice c, with so many bindings
 pub data Backs (lay : Layout) (m : Regs) : ℕ → ℕ → List ℕ → Due → List ℕ → Type 0 where
@@ -85,7 +85,7 @@ trial-of file w lay n k = record {
 -- the predicate goal at n is called: it has no clause, or its first one is to be tried
 pub data Calls (file : List ℕ) (lay : Layout) (m : Regs) (n : Next) (w : List ℕ) : Due → List ℕ → Type 0 where
   no-clause : {d : Due} {v : List ℕ} → getD w (lay .firsts + two-bytes file (n .place .0 + 1)) 0 ≡ 0 → Backs lay m (m .trail) (m .choice) w d v → Calls file lay m n w d v
-  first-clause : {k : ℕ} → getD w (lay .firsts + two-bytes file (n .place .0 + 1)) 0 ≡ suc k → Calls file lay m n w (Try (trial-of file w lay n k) m) w
+  first-clause : {k : ℕ} → getD w (lay .firsts + two-bytes file (n .place .0 + 1)) 0 ≡ suc k → Calls file lay m n w (Try m (trial-of file w lay n k)) w
 
 -- the first open goal is taken
 pub data GoesOn (file : List ℕ) (lay : Layout) (m : Regs) (w : List ℕ) : Due → List ℕ → Type 0 where

@@ -64,7 +64,7 @@ pub struct Trial {
 
 // What is due: a move, which costs a unit, an answer, or the end.
 pub enum Due {
-    Try(Trial, Regs),
+    Try(Regs, Trial),
     Pair(Regs),
     Cut(Regs),
     Answer(Regs),
@@ -162,7 +162,7 @@ fn retry(w: &[u32], lay: Layout, m: Regs, trail: u32, c: u32, steps: u32, prior:
         choice: prior,
         ..m
     };
-    Due::Try(t, n)
+    Due::Try(n, t)
 }
 
 // Failure goes back to the latest goal with untried clauses.
@@ -239,7 +239,7 @@ fn call(file: &[u8], w: &mut [u32], lay: Layout, m: Regs, n: Next) -> Due
         return back(w, lay, m);
     }
     let t = first_trial(file, w, lay, n, v - 1);
-    Due::Try(t, m)
+    Due::Try(m, t)
 }
 
 // The record of a step: its clause, the goal, the goals behind it, and how far the run was.

@@ -1,4 +1,4 @@
-use Rattle.machine.proofs.CallLaws.{read-can, read-ends, read-refuses}
+use Rattle.machine.proofs.CallLaws.{read-can, read-refuses}
 use borrow.Author.Needs.{needs}
 use Rattle.machine.proofs.read_on.Statement.{statement}
 use Rattle.machine.proofs.read_on.Tie as tie
@@ -37,7 +37,7 @@ same-length-2 c = search needs
 
 -- src/lib.rt:113:1
 returns-2 : tie.Need-returns-2
-returns-2 c = search read-ends
+returns-2 c = search needs
 
 pub read-on-spec : {M : Type 1} → statement M
 read-on-spec =

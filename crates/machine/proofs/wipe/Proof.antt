@@ -7,32 +7,32 @@ use Rattle.machine.proofs.wipe.Reads as reads
 use Rattle.machine.proofs.wipe.Lts as lts
 
 abbrev Inv-loop : tie.InvT-loop
-Inv-loop w₀ count i₀ w i = Wiping count w₀ i w
+Inv-loop w₀ i₀ i-end w i = Wiping w₀ i-end i w
 
 abbrev μ-loop : tie.MeasureT-loop
-μ-loop w₀ count i₀ w i = count - i
+μ-loop w₀ i₀ i-end w i = i-end - i
 
--- src/lib.rt:87:5
+-- src/lib.rt:86:5
 loop-holds : tie.Need-loop-holds Inv-loop μ-loop
 loop-holds c = search wiping-start
 
--- src/lib.rt:88:9
+-- src/lib.rt:87:9
 mul-w : tie.Need-mul-w Inv-loop μ-loop
 mul-w c = search needs
 
--- src/lib.rt:88:9
+-- src/lib.rt:87:9
 slice-write-w : tie.Need-slice-write-w Inv-loop μ-loop
 slice-write-w c = search wiping-within
 
--- src/lib.rt:87:9
+-- src/lib.rt:86:9
 add-i : tie.Need-add-i Inv-loop μ-loop
 add-i c = search needs
 
--- src/lib.rt:87:5
+-- src/lib.rt:86:5
 loop-less : tie.Need-loop-less Inv-loop μ-loop
 loop-less c = search needs
 
--- src/lib.rt:87:5
+-- src/lib.rt:86:5
 loop-again : tie.Need-loop-again Inv-loop μ-loop
 loop-again c = search wiping-again
 

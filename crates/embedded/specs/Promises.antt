@@ -1,0 +1,62 @@
+-- What follows from the promises of the exported functions: one content of every buffer and one number, and the third demand for what
+-- the embedded form wrote.
+-- Assumes nothing.
+use Prim.Native.Nat.{ℕ, _+_, _*_, _^_, min}
+use mathlib.Core.Path.{_≡_, refl, sym, ap, ap₂, _∙_}
+use mathlib.Core.List.{List, _++_}
+use native.Mathlib.Omega.{arith}
+use lib.Dec.{ltb}
+use lib.ListN.{length, drop}
+use Rattle.laws.specs.IfLaws.{if-by}
+use Rattle.meaning.specs.If.{if_then_else_}
+use Rattle.meaning.specs.Rules.{Rules}
+use Rattle.meaning.specs.Answers.{Answer, output}
+use Rattle.meaning.specs.Call.{Result, refusal, end, result, output-after}
+use Rattle.meaning.specs.Embedded.{embedded, embedded-limits, embedded-scratch, room-limit, packed}
+use Rattle.demands.specs.Proofs.{Uncut}
+use Rattle.demands.specs.Demands.{Says, Ends, Correct, Complete}
+use Rattle.demands.specs.Theorems.{third-demand, third-demand-with-cut}
+use Rattle.search.specs.declared.Limits.{Limits}
+use Rattle.embedded.specs.Telling.{CallTells, EmbedTells}
+
+-- one content of scratch, output and result
+pub call-once : (file : List ℕ) (l : Limits) (budget wanted : ℕ) (w o r : List ℕ) (u v p q s t : List ℕ) → CallTells file l budget wanted w o r u p s → CallTells file l budget wanted w o r v q t → (u ≡ v) × (p ≡ q) × (s ≡ t)
+call-once file l budget wanted w o r u v p q s t a b = (a .scratch ∙ sym (b .scratch), a .output ∙ sym (b .output), a .words ∙ sym (b .words))
+
+module _ (file : List ℕ) (budget wanted : ℕ) (o : List ℕ) where
+  -- one number and one content of the output
+  pub run-once : (m n : ℕ) (p q : List ℕ) → EmbedTells file budget wanted o m p → EmbedTells file budget wanted o n q → (m ≡ n) × (p ≡ q)
+  run-once m n p q a b = (a .number ∙ sym (b .number), a .output ∙ sym (b .output))
+
+  -- ---- an end
+  module _ (R : Rules) (says : Says file R) (e answers units : ℕ) (b : List ℕ) (gives : embedded file budget wanted (length o) ≡ end e answers units b) (n : ℕ) (p : List ℕ) (a : EmbedTells file budget wanted o n p) where
+    whole : result file embedded-limits budget wanted embedded-scratch (min (length o) room-limit) ≡ end e answers units b
+    unfolding embedded
+    whole =
+        if-by (λ (x : Result). x ≡ end e answers units b → result file embedded-limits budget wanted embedded-scratch (min (length o) room-limit) ≡ end e answers units b) (ltb 4_000 (length file))
+        (λ t q. let z : _≡_ {A = ℕ} 0 1 = cc in absurd (omega arith)) (λ t q. q) gives
+
+    ends : Ends R e answers units b
+    ends = record { file = file; limits = embedded-limits; budget = budget; wanted = wanted; scratch = embedded-scratch; room = min (length o) room-limit; says = says; gives = whole }
+
+    -- the answers that stand in the output, and the number that tells of them
+    pub record Wrote (listed : List Answer) : Type 0 where
+      pub answers-are : answers ≡ length listed
+      pub number : n ≡ e * 2 ^ 32 + length (output listed)
+      pub output-is : p ≡ output listed ++ drop (length (output listed)) o
+
+    wrote : (listed : List Answer) → b ≡ output listed → answers ≡ length listed → Wrote listed
+    unfolding packed output-after
+    wrote listed f k = record {
+      answers-are = k;
+      number = a .number ∙ ap packed gives ∙ ap (λ (x : List ℕ). e * 2 ^ 32 + length x) f;
+      output-is = a .output ∙ ap (λ (x : Result). output-after x o) gives ∙ ap (λ (x : List ℕ). x ++ drop (length x) o) f;
+    }
+
+    -- without cut, the answers that it wrote are complete
+    pub run-complete : Uncut R → (listed : List Answer) × Wrote listed × Complete R listed (e ≡ 20)
+    run-complete uncut = let (listed, f, k, c) = third-demand R e answers units b uncut ends in (listed, wrote listed f k, c)
+
+    -- with cut or without, they are right, and rise in dictionary order
+    pub run-correct : (listed : List Answer) × Wrote listed × Correct R listed
+    run-correct = let (listed, f, k, c) = third-demand-with-cut R e answers units b ends in (listed, wrote listed f k, c)

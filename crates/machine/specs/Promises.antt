@@ -1,0 +1,140 @@
+-- What follows from the promise of the whole call: there is one outcome and one content of each buffer; a refusal leaves everything as
+-- it was; an end leaves the needed scratch zero and the rest of it and of the output unchanged; and what the function wrote is complete.
+-- Assumes nothing.
+use Prim.Native.Nat.{ℕ, _≤_}
+use mathlib.Core.Path.{_≡_, refl, sym, ap, ap₂, _∙_, subst}
+use mathlib.Core.List.{List, _++_}
+use native.Mathlib.Omega.{arith}
+use lib.Dec.{eqb}
+use lib.ListN.{length, drop, replicate}
+use Rattle.meaning.specs.If.{if_then_else_}
+use Rattle.meaning.specs.Rules.{Rules}
+use Rattle.meaning.specs.Answers.{Answer, output}
+use Rattle.meaning.specs.Call.{Result, refusal, end, needed, output-after, scratch-after}
+use Rattle.meaning.specs.Outcome.{end-number, Said, refused-as, ended-as, says, to-say}
+use Rattle.meaning.specs.declared.Place.{Place}
+use Rattle.meaning.specs.declared.Totals.{Totals}
+use Rattle.meaning.specs.declared.End.{End}
+use Rattle.meaning.specs.declared.End.the-variants.{NoMore, Wanted, Budget, Cells, Steps, Work, Output}
+use Rattle.meaning.specs.declared.Outcome.{Outcome}
+use Rattle.meaning.specs.declared.Outcome.the-variants.{Refused, Ended}
+use Rattle.demands.specs.Proofs.{Uncut}
+use Rattle.demands.specs.Demands.{Says, Ends, Correct, Complete}
+use Rattle.demands.specs.Theorems.{third-demand, third-demand-with-cut}
+use Rattle.demands.specs.Rooms.{Small, result-small}
+use Rattle.search.specs.declared.Limits.{Limits}
+use Rattle.machine.specs.Calling.{limits-of, result-of, Called}
+
+-- ---- an outcome is what it says
+-- the end with a number
+end-of : ℕ → End
+end-of n =
+    if eqb n 20 then NoMore else
+    if eqb n 21 then Wanted else
+    if eqb n 22 then Budget else
+    if eqb n 23 then Cells else
+    if eqb n 24 then Steps else
+    if eqb n 25 then Work else
+    Output
+
+end-back : (e : End) → end-of (end-number e) ≡ e
+unfolding end-of end-number if_then_else_
+end-back NoMore = refl
+end-back Wanted = refl
+end-back Budget = refl
+end-back Cells = refl
+end-back Steps = refl
+end-back Work = refl
+end-back Output = refl
+
+-- the outcome that says it
+outcome-of : Said → Outcome
+outcome-of (refused-as n p) = Refused n (record { 0 = p })
+outcome-of (ended-as e answers units bytes) = Ended (end-of e) (record { answers = answers; units = units; bytes = bytes })
+
+outcome-back : (r : Outcome) → outcome-of (says r) ≡ r
+unfolding outcome-of says
+outcome-back (Refused n p) = refl
+outcome-back (Ended e t) = ap (λ (x : End). Ended x t) (end-back e)
+
+module _ (file : List ℕ) (l : Limits) (budget wanted : ℕ) (w o : List ℕ) where
+  -- one outcome, one content of scratch and of the output
+  pub called-once : (r s : Outcome) (u v p q : List ℕ) → Called file l budget wanted w o r u p → Called file l budget wanted w o s v q → (r ≡ s) × (u ≡ v) × (p ≡ q)
+  called-once r s u v p q a b = (sym (outcome-back r) ∙ ap outcome-of (a .outcome ∙ sym (b .outcome)) ∙ outcome-back s, a .words ∙ sym (b .words), a .bytes ∙ sym (b .bytes))
+
+  -- the result that the definition gives, and what is in scratch and in the output after it
+  abbrev x : Result
+  x = result-of file l budget wanted w o
+
+  abbrev words-then : List ℕ
+  words-then = scratch-after x (needed (length file) (limits-of l)) w
+
+  abbrev bytes-then : List ℕ
+  bytes-then = output-after x o
+
+  -- ---- a refusal leaves everything as it was
+  abbrev Kept : Said → List ℕ → List ℕ → Type 0
+  Kept (refused-as n p) v q = (v ≡ w) × (q ≡ o)
+  Kept (ended-as e n u b) v q = Unit {0}
+
+  kept : (y : Result) → Kept (to-say y) (scratch-after y (needed (length file) (limits-of l)) w) (output-after y o)
+  unfolding to-say scratch-after output-after
+  kept (refusal n p) = (refl, refl)
+  kept (end e n u b) = tt
+
+  pub called-refused : (n : ℕ) (p : Place) (v q : List ℕ) → Called file l budget wanted w o (Refused n p) v q → (v ≡ w) × (q ≡ o)
+  unfolding says
+  called-refused n p v q a =
+      let k : Kept (refused-as n (p .0)) words-then bytes-then = subst (λ (s : Said). Kept s words-then bytes-then) (sym (a .outcome)) (kept x) in
+      (a .words ∙ k .0, a .bytes ∙ k .1)
+
+  -- ---- an end: the needed words are zero, the bytes of the answers stand in the output, and nothing else is changed
+  pub record Left (answers units size : ℕ) (e : ℕ) (v q : List ℕ) : Type 0 where
+    pub written : List ℕ
+    pub gives : x ≡ end e answers units written
+    pub long : length written ≡ size
+    pub within : size ≤ length o
+    pub scratch : v ≡ replicate (needed (length file) (limits-of l)) 0 ++ drop (needed (length file) (limits-of l)) w
+    pub output-is : q ≡ written ++ drop size o
+
+  abbrev Came : Said → List ℕ → List ℕ → Type 0
+  Came (refused-as n p) v q = Unit {0}
+  Came (ended-as e n u b) v q = Left n u b e v q
+
+  came : (y : Result) → x ≡ y → Small file (length o) y → Came (to-say y) (scratch-after y (needed (length file) (limits-of l)) w) (output-after y o)
+  unfolding to-say scratch-after output-after
+  came (refusal n p) g s = tt
+  came (end e n u b) g s = record { written = b; gives = g; long = refl; within = s; scratch = refl; output-is = refl }
+
+  pub called-ended : (e : End) (t : Totals) (v q : List ℕ) → Called file l budget wanted w o (Ended e t) v q → Left (t .answers) (t .units) (t .bytes) (end-number e) v q
+  unfolding says
+  called-ended e t v q a =
+      rw (a .words, a .bytes) (subst (λ (s : Said). Came s words-then bytes-then) (sym (a .outcome)) (came x refl (result-small file (limits-of l) budget wanted (length w) (length o))))
+
+  -- ---- the third demand, for what the function wrote
+  module _ (R : Rules) (says-so : Says file R) (e : End) (t : Totals) (v q : List ℕ) (a : Called file l budget wanted w o (Ended e t) v q) where
+    -- the answers that stand in the output
+    pub record Wrote (listed : List Answer) : Type 0 where
+      pub answers : t .answers ≡ length listed
+      pub bytes : t .bytes ≡ length (output listed)
+      pub output-is : q ≡ output listed ++ drop (length (output listed)) o
+
+    wrote : (listed : List Answer) (b : List ℕ) → b ≡ output listed → t .answers ≡ length listed → length b ≡ t .bytes → q ≡ b ++ drop (t .bytes) o → Wrote listed
+    wrote listed b f n s z = record { answers = n; bytes = sym s ∙ ap length f; output-is = z ∙ ap₂ (λ (x : List ℕ) (k : ℕ). x ++ drop k o) f (sym s ∙ ap length f) }
+
+    ends : Ends R (end-number e) (t .answers) (t .units) (called-ended e t v q a .written)
+    ends = record { file = file; limits = limits-of l; budget = budget; wanted = wanted; scratch = length w; room = length o; says = says-so; gives = called-ended e t v q a .gives }
+
+    -- without cut, the answers that it wrote are complete
+    pub called-complete : Uncut R → (listed : List Answer) × Wrote listed × Complete R listed (end-number e ≡ 20)
+    called-complete uncut =
+        let k = called-ended e t v q a in
+        let (listed, b, n, c) = third-demand R (end-number e) (t .answers) (t .units) (k .written) uncut ends in
+        (listed, wrote listed (k .written) b n (k .long) (k .output-is), c)
+
+    -- with cut or without, they are right, and rise in dictionary order
+    pub called-correct : (listed : List Answer) × Wrote listed × Correct R listed
+    called-correct =
+        let k = called-ended e t v q a in
+        let (listed, b, n, c) = third-demand-with-cut R (end-number e) (t .answers) (t .units) (k .written) ends in
+        (listed, wrote listed (k .written) b n (k .long) (k .output-is), c)
