@@ -6,6 +6,7 @@ use mathlib.Core.List.{List}
 use lib.ListN.{length}
 use Rattle.meaning.specs.declared.End.the-variants.{Budget, Work, Cells, Steps}
 use Rattle.meaning.specs.declared.Place.{Place}
+use Rattle.cells.specs.declared.Layout.{Layout}
 use Rattle.matching.specs.Matching.{MatchesPairs, late, differed, crowded-out, matched-all, next-pair as next-one}
 use Rattle.matching.specs.declared.Came.{Came}
 use Rattle.matching.specs.declared.Came.the-variants.{Matched, Differed, Crowded, Late}
@@ -18,26 +19,43 @@ use Rattle.search.specs.declared.Room.the-variants.{Cells as Room-cells, Steps 
 use Rattle.search.specs.declared.Trial.{Trial}
 use Rattle.search.specs.declared.Due.{Due}
 use Rattle.search.specs.declared.Due.the-variants.{Try, Over}
-use Rattle.machine.specs.Running.{spent, MovesPairs, too-late, last-pair, next-pair, TriesPairs, no-pairs, then-pairs, TriesHeads, head-late, last-head, next-head}
+use Rattle.machine.specs.Running.{spent, matched-regs, Leads, leads-on, leads-back, leads-over, leads-late, MovesPairs, too-late, last-pair, next-pair, MatchesHead, none-to-match, some-to-match, TriesPairs, no-pairs, then-pairs, TriesHeads, head-late, last-head, next-head}
 use Rattle.machine.proofs.Laws.{units-left, next-fewer}
 
 -- ---- the pairs of a head
+module _ (file : List ℕ) (lay : Layout) (m : Regs) (r : Matched·pairs) (c : Came) (e : c ≡ r .came) (w : List ℕ) where
+  pub lead-on : (d : Due) (v : List ℕ) → c ≡ Matched → GoesOn file lay (matched-regs m r) w d v → Leads file lay m r w d v
+  lead-on d v f b = leads-on (sym e ∙ f) b
+
+  pub lead-back : (d : Due) (v : List ℕ) → c ≡ Differed → Backs lay (matched-regs m r) (r .trail) (m .choice) w d v → Leads file lay m r w d v
+  lead-back d v f b = leads-back (sym e ∙ f) b
+
+  pub lead-over : c ≡ Crowded → Leads file lay m r w (Over Work (matched-regs m r)) w
+  lead-over f = leads-over (sym e ∙ f)
+
+  pub lead-late : c ≡ Late → Leads file lay m r w (Over Budget (matched-regs m r)) w
+  lead-late f = leads-late (sym e ∙ f)
+
 -- where a run is between two pairs of a head
-abbrev pub between : Regs → ℕ → ℕ → ℕ → ℕ → Regs
+abbrev between : Regs → ℕ → ℕ → ℕ → ℕ → Regs
 between m trail work fresh units = record { cells = m .cells; trail = trail; steps = m .steps; choice = m .choice; work = work; fresh = fresh; next = m .next; units = units }
 
 module _ (file : List ℕ) (g : Given) (budget : ℕ) (m : Regs) where
   -- what comes of a head, by how its pairs came out
-  abbrev Leads : Came → Regs → List ℕ → Due → List ℕ → Type 0
-  Leads Matched n v d u = GoesOn file (g .lay) n v d u
-  Leads Differed n v d u = Backs (g .lay) n (n .trail) (n .choice) v d u
-  Leads Crowded n v d u = (d ≡ Over Work n) × (u ≡ v)
-  Leads Late n v d u = (d ≡ Over Budget n) × (u ≡ v)
+  abbrev Leading : Came → Regs → List ℕ → Due → List ℕ → Type 0
+  Leading Matched n v d u = GoesOn file (g .lay) n v d u
+  Leading Differed n v d u = Backs (g .lay) n (n .trail) (n .choice) v d u
+  Leading Crowded n v d u = (d ≡ Over Work n) × (u ≡ v)
+  Leading Late n v d u = (d ≡ Over Budget n) × (u ≡ v)
 
-  abbrev behind : Matched·pairs → Regs
-  behind r = between m (r .trail) (r .work) (r .fresh) (r .units)
+  leading : {r : Matched·pairs} {v u : List ℕ} {d : Due} → Leads file (g .lay) m r v d u → Leading (r .came) (matched-regs m r) v d u
+  leading (leads-on e b) = rw e b
+  leading (leads-back e b) = rw e b
+  leading (leads-over e) = rw e (refl, refl)
+  leading (leads-late e) = rw e (refl, refl)
 
-  leads : {trail work fresh units : ℕ} {w v u : List ℕ} {r : Matched·pairs} {d : Due} → MatchesPairs file (g .lay) (g .limits .work) budget (m .cells) trail work fresh units w r v → Leads (r .came) (behind r) v d u → MovesPairs file g budget (between m trail work fresh units) w d u
+  leads : {trail work fresh units : ℕ} {w v u : List ℕ} {r : Matched·pairs} {d : Due} → MatchesPairs file (g .lay) (g .limits .work) budget (m .cells) trail work fresh units w r v → Leading (r .came) (matched-regs m r) v d u
+      → MovesPairs file g budget (between m trail work fresh units) w d u
   unfolding spent
   leads (late h) (e, f) = rw (e, f) (too-late h)
   leads (differed h a) b = last-pair h (differ a b)
@@ -45,21 +63,15 @@ module _ (file : List ℕ) (g : Given) (budget : ℕ) (m : Regs) where
   leads (matched-all h a z) b = last-pair h (same a (matched z b))
   leads (next-one h a z c) b = next-pair h (same a (more z)) (leads c b)
 
-  module _ (w v : List ℕ) (r : Matched·pairs) (a : MatchesPairs file (g .lay) (g .limits .work) budget (m .cells) (m .trail) (m .work) (m .fresh) (m .units) w r v) where
-    came : (c : Came) (d : Due) (u : List ℕ) → r .came ≡ c → Leads c (behind r) v d u → MovesPairs file g budget m w d u
-    came c d u e b = leads a (rw e b)
+  module _ (w v u : List ℕ) (r : Matched·pairs) (d : Due) (a : MatchesPairs file (g .lay) (g .limits .work) budget (m .cells) (m .trail) (m .work) (m .fresh) (m .units) w r v) (b : Leads file (g .lay) m r v d u) where
+    pub pairs-lead : MovesPairs file g budget m w d u
+    pairs-lead = leads a (leading b)
 
-    pub pairs-match : (d : Due) (u : List ℕ) → r .came ≡ Matched → GoesOn file (g .lay) (behind r) v d u → MovesPairs file g budget m w d u
-    pairs-match d u e b = came Matched d u e b
+    pub head-leads : (m .work ≡ 0 → ⊥) → MatchesHead file g budget m w d u
+    head-leads z = some-to-match z pairs-lead
 
-    pub pairs-differ : (d : Due) (u : List ℕ) → r .came ≡ Differed → Backs (g .lay) (behind r) (r .trail) (m .choice) v d u → MovesPairs file g budget m w d u
-    pairs-differ d u e b = came Differed d u e b
-
-    pub pairs-crowd : r .came ≡ Crowded → MovesPairs file g budget m w (Over Work (behind r)) v
-    pairs-crowd e = came Crowded _ _ e (refl, refl)
-
-    pub pairs-late : r .came ≡ Late → MovesPairs file g budget m w (Over Budget (behind r)) v
-    pairs-late e = came Late _ _ e (refl, refl)
+  pub head-whole : (w v : List ℕ) (d : Due) → m .work ≡ 0 → GoesOn file (g .lay) m w d v → MatchesHead file g budget m w d v
+  head-whole w v d z b = none-to-match z b
 
 -- ---- trying a head
 module _ (file : List ℕ) (g : Given) (budget : ℕ) (t : Trial) (m : Regs) (w : List ℕ) (x : Room) (e : x ≡ room-of file w g (t .clause) m) where
@@ -69,12 +81,9 @@ module _ (file : List ℕ) (g : Given) (budget : ℕ) (t : Trial) (m : Regs) (w 
   pub try-steps : x ≡ Room-steps → TriesPairs file g budget t m w (Over Steps m) w
   try-steps f = no-pairs (over-steps (sym e ∙ f))
 
-  module _ (p : Place) (variables : ℕ) (n : Regs) (d : Due) (v u : List ℕ) (f : x ≡ Fits p variables) (a : Enters file g t m p variables w n v) where
-    pub try-whole : n .work ≡ 0 → GoesOn file (g .lay) n v d u → TriesPairs file g budget t m w d u
-    try-whole z b = no-pairs (tries (sym e ∙ f) a (matched z b))
-
-    pub try-pairs : (n .work ≡ 0 → ⊥) → MovesPairs file g budget n v d u → TriesPairs file g budget t m w d u
-    try-pairs z b = then-pairs (tries (sym e ∙ f) a (more z)) b
+  pub try-fits : (p : Place) (variables : ℕ) (n : Regs) (d : Due) (v u : List ℕ) → x ≡ Fits p variables → Enters file g t m p variables w n v → MatchesHead file g budget n v d u → TriesPairs file g budget t m w d u
+  try-fits p variables n d v u f a (none-to-match z b) = no-pairs (tries (sym e ∙ f) a (matched z b))
+  try-fits p variables n d v u f a (some-to-match z b) = then-pairs (tries (sym e ∙ f) a (more z)) b
 
 -- ---- heads: what is left to try comes to the same
 pub record Trying (file : List ℕ) (g : Given) (budget : ℕ) (m₀ : Regs) (x₀ : Trial) (w₀ : List ℕ) (m : Regs) (x : Trial) (w : List ℕ) : Type 0 where

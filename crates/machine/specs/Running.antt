@@ -12,7 +12,10 @@ use Rattle.meaning.specs.declared.Totals.{Totals}
 use Rattle.meaning.specs.declared.Outcome.{Outcome}
 use Rattle.meaning.specs.declared.Outcome.the-variants.{Ended}
 use Rattle.words.specs.Words.{plus, ahead}
-use Rattle.search.specs.Search.{Backs, TriesHead, MovesPair, MovesCut, Starts}
+use Rattle.cells.specs.declared.Layout.{Layout}
+use Rattle.matching.specs.declared.Came.the-variants.{Matched, Differed, Crowded, Late}
+use Rattle.matching.specs.declared.Matched.{Matched as Matched·pairs}
+use Rattle.search.specs.Search.{Backs, GoesOn, TriesHead, MovesPair, MovesCut, Starts}
 use Rattle.search.specs.declared.Given.{Given}
 use Rattle.search.specs.declared.Regs.{Regs}
 use Rattle.search.specs.declared.Trial.{Trial}
@@ -72,11 +75,27 @@ pub data Moves (file : List ℕ) (g : Given) (budget wanted : ℕ) : Due → Wri
   lists : {m : Regs} {t s : Written} {d : Due} {w o v p : List ℕ} → Lists file g wanted m t w o d s v p → Moves file g budget wanted (Answer m) t w o d s v p
   is-over : {e : End} {m : Regs} {t : Written} {w o : List ℕ} → Moves file g budget wanted (Over e m) t w o (Over e m) t w o
 
+-- where a run is once the pairs of a head came out so
+abbrev pub matched-regs : Regs → Matched·pairs → Regs
+matched-regs m r = record { cells = m .cells; trail = r .trail; steps = m .steps; choice = m .choice; work = r .work; fresh = r .fresh; next = m .next; units = r .units }
+
+-- what comes of that
+pub data Leads (file : List ℕ) (lay : Layout) (m : Regs) (r : Matched·pairs) (w : List ℕ) : Due → List ℕ → Type 0 where
+  leads-on : {d : Due} {v : List ℕ} → r .came ≡ Matched → GoesOn file lay (matched-regs m r) w d v → Leads file lay m r w d v
+  leads-back : {d : Due} {v : List ℕ} → r .came ≡ Differed → Backs lay (matched-regs m r) (r .trail) (m .choice) w d v → Leads file lay m r w d v
+  leads-over : r .came ≡ Crowded → Leads file lay m r w (Over Work (matched-regs m r)) w
+  leads-late : r .came ≡ Late → Leads file lay m r w (Over Budget (matched-regs m r)) w
+
 -- the pairs of a head, each for a unit, up to the move that comes to something else
 pub data MovesPairs (file : List ℕ) (g : Given) (budget : ℕ) : Regs → List ℕ → Due → List ℕ → Type 0 where
   too-late : {m : Regs} {w : List ℕ} → budget ≤ m .units → MovesPairs file g budget m w (Over Budget m) w
   last-pair : {m : Regs} {d : Due} {w v : List ℕ} → m .units < budget → MovesPair file g (spent m) w d v → MovesPairs file g budget m w d v
   next-pair : {m n : Regs} {d : Due} {w v u : List ℕ} → m .units < budget → MovesPair file g (spent m) w (Pair n) v → MovesPairs file g budget n v d u → MovesPairs file g budget m w d u
+
+-- a head that was entered
+pub data MatchesHead (file : List ℕ) (g : Given) (budget : ℕ) (m : Regs) (w : List ℕ) : Due → List ℕ → Type 0 where
+  none-to-match : {d : Due} {v : List ℕ} → m .work ≡ 0 → GoesOn file (g .lay) m w d v → MatchesHead file g budget m w d v
+  some-to-match : {d : Due} {v : List ℕ} → (m .work ≡ 0 → ⊥) → MovesPairs file g budget m w d v → MatchesHead file g budget m w d v
 
 -- a head, and then its pairs
 pub data TriesPairs (file : List ℕ) (g : Given) (budget : ℕ) (x : Trial) (m : Regs) (w : List ℕ) : Due → List ℕ → Type 0 where

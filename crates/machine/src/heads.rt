@@ -1,5 +1,7 @@
 // Heads: each is tried, and its pairs are matched, until something else than a head is due.
+use cells::Layout;
 use matching::Came;
+use matching::Matched;
 use matching::match_pairs;
 use meaning::End;
 use search::Due;
@@ -13,7 +15,7 @@ use search::go_on;
 use search::room_for;
 use words::add;
 ghost use mathlib.Core.Path.{_≡_};
-ghost use Rattle.machine.specs.Running.{spent, MovesPairs, TriesPairs, TriesHeads};
+ghost use Rattle.machine.specs.Running.{spent, Leads, MovesPairs, MatchesHead, TriesPairs, TriesHeads};
 
 // A unit is spent.
 pub fn spend(m: Regs) -> Regs
@@ -25,7 +27,27 @@ pub fn spend(m: Regs) -> Regs
     }
 }
 
-// The pairs are matched, each for a unit; then the run goes on with its goals, goes back, or is over.
+// What comes of a head whose pairs came out so: the run goes on with its goals, goes back, or is over.
+fn lead_on(file: &[u8], w: &mut [u32], lay: Layout, m: Regs, r: Matched) -> Due
+    ensures { λ d. ⌜ Leads (now (file .entry)) lay m r (now (w .entry)) d (now (w .exit)) ⌝ }
+{
+    let n = Regs {
+        trail: r.trail,
+        work: r.work,
+        fresh: r.fresh,
+        units: r.units,
+        ..m
+    };
+    let came = r.came;
+    match came {
+        Came::Matched => go_on(file, w, lay, n),
+        Came::Differed => back(w, lay, n),
+        Came::Crowded => Due::Over(End::Work, n),
+        Came::Late => Due::Over(End::Budget, n),
+    }
+}
+
+// The pairs are matched, each for a unit.
 pub fn move_pairs(file: &[u8], w: &mut [u32], g: Given, budget: u32, m: Regs) -> Due
     ensures { λ r. ⌜ MovesPairs (now (file .entry)) g budget m (now (w .entry)) r (now (w .exit)) ⌝ }
 {
@@ -43,37 +65,44 @@ pub fn move_pairs(file: &[u8], w: &mut [u32], g: Given, budget: u32, m: Regs) ->
         m.fresh,
         m.units,
     );
-    let n = Regs {
-        trail: r.trail,
-        work: r.work,
-        fresh: r.fresh,
-        units: r.units,
-        ..m
-    };
-    let came = r.came;
-    match came {
-        Came::Matched => go_on(file, w, lay, n),
-        Came::Differed => back(w, lay, n),
-        Came::Crowded => Due::Over(End::Work, n),
-        Came::Late => Due::Over(End::Budget, n),
+    lead_on(file, w, lay, m, r)
+}
+
+// A head that was entered is matched; it may have no pairs.
+fn match_head(file: &[u8], w: &mut [u32], g: Given, budget: u32, m: Regs) -> Due
+    ensures { λ r. ⌜ MatchesHead (now (file .entry)) g budget m (now (w .entry)) r (now (w .exit)) ⌝ }
+{
+    let lay = g.lay;
+    let limits = g.limits;
+    if m.work == 0 {
+        return go_on(file, w, lay, m);
     }
+    let r = match_pairs(
+        file,
+        w,
+        lay,
+        limits.work,
+        budget,
+        m.cells,
+        m.trail,
+        m.work,
+        m.fresh,
+        m.units,
+    );
+    lead_on(file, w, lay, m, r)
 }
 
 // A head is tried, its unit being spent, and its pairs are matched.
 fn try_head(file: &[u8], w: &mut [u32], g: Given, budget: u32, t: Trial, m: Regs) -> Due
     ensures { λ r. ⌜ TriesPairs (now (file .entry)) g budget t m (now (w .entry)) r (now (w .exit)) ⌝ }
 {
-    let lay = g.lay;
     let k = t.clause;
     match room_for(file, w, g, k, m) {
         Room::Cells => Due::Over(End::Cells, m),
         Room::Steps => Due::Over(End::Steps, m),
         Room::Fits(p, variables) => {
             let n = enter(file, w, g, t, m, p, variables);
-            if n.work == 0 {
-                return go_on(file, w, lay, n);
-            }
-            move_pairs(file, w, g, budget, n)
+            match_head(file, w, g, budget, n)
         }
     }
 }
