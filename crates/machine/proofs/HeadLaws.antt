@@ -20,7 +20,7 @@ use Rattle.search.specs.declared.Trial.{Trial}
 use Rattle.search.specs.declared.Due.{Due}
 use Rattle.search.specs.declared.Due.the-variants.{Try, Over}
 use Rattle.machine.specs.Running.{spent, matched-regs, Leads, leads-on, leads-back, leads-over, leads-late, MovesPairs, too-late, last-pair, next-pair, MatchesHead, none-to-match, some-to-match, TriesPairs, no-pairs, then-pairs, TriesHeads, head-late, last-head, next-head}
-use Rattle.machine.proofs.Laws.{units-left, next-fewer}
+use Rattle.machine.proofs.Laws.{backs-apart, goes-apart, units-left, next-fewer}
 
 -- ---- the pairs of a head
 module _ (file : List ℕ) (lay : Layout) (m : Regs) (r : Matched·pairs) (c : Came) (e : c ≡ r .came) (w : List ℕ) where
@@ -58,17 +58,14 @@ module _ (file : List ℕ) (g : Given) (budget : ℕ) (m : Regs) where
       → MovesPairs file g budget (between m trail work fresh units) w d u
   unfolding spent
   leads (late h) (e, f) = rw (e, f) (too-late h)
-  leads (differed h a) b = last-pair h (differ a b)
-  leads (crowded-out h a) (e, f) = rw (e, f) (last-pair h (over-work a))
-  leads (matched-all h a z) b = last-pair h (same a (matched z b))
+  leads (differed h a) b = last-pair h (backs-apart b) (differ a b)
+  leads (crowded-out h a) (e, f) = rw (e, f) (last-pair h tt (over-work a))
+  leads (matched-all h a z) b = last-pair h (goes-apart b) (same a (matched z b))
   leads (next-one h a z c) b = next-pair h (same a (more z)) (leads c b)
 
   module _ (w v u : List ℕ) (r : Matched·pairs) (d : Due) (a : MatchesPairs file (g .lay) (g .limits .work) budget (m .cells) (m .trail) (m .work) (m .fresh) (m .units) w r v) (b : Leads file (g .lay) m r v d u) where
-    pub pairs-lead : MovesPairs file g budget m w d u
-    pairs-lead = leads a (leading b)
-
     pub head-leads : (m .work ≡ 0 → ⊥) → MatchesHead file g budget m w d u
-    head-leads z = some-to-match z pairs-lead
+    head-leads z = some-to-match z (leads a (leading b))
 
   pub head-whole : (w v : List ℕ) (d : Due) → m .work ≡ 0 → GoesOn file (g .lay) m w d v → MatchesHead file g budget m w d v
   head-whole w v d z b = none-to-match z b
@@ -76,13 +73,13 @@ module _ (file : List ℕ) (g : Given) (budget : ℕ) (m : Regs) where
 -- ---- trying a head
 module _ (file : List ℕ) (g : Given) (budget : ℕ) (t : Trial) (m : Regs) (w : List ℕ) (x : Room) (e : x ≡ room-of file w g (t .clause) m) where
   pub try-cells : x ≡ Room-cells → TriesPairs file g budget t m w (Over Cells m) w
-  try-cells f = no-pairs (over-cells (sym e ∙ f))
+  try-cells f = no-pairs tt (over-cells (sym e ∙ f))
 
   pub try-steps : x ≡ Room-steps → TriesPairs file g budget t m w (Over Steps m) w
-  try-steps f = no-pairs (over-steps (sym e ∙ f))
+  try-steps f = no-pairs tt (over-steps (sym e ∙ f))
 
   pub try-fits : (p : Place) (variables : ℕ) (n : Regs) (d : Due) (v u : List ℕ) → x ≡ Fits p variables → Enters file g t m p variables w n v → MatchesHead file g budget n v d u → TriesPairs file g budget t m w d u
-  try-fits p variables n d v u f a (none-to-match z b) = no-pairs (tries (sym e ∙ f) a (matched z b))
+  try-fits p variables n d v u f a (none-to-match z b) = no-pairs (goes-apart b) (tries (sym e ∙ f) a (matched z b))
   try-fits p variables n d v u f a (some-to-match z b) = then-pairs (tries (sym e ∙ f) a (more z)) b
 
 -- ---- heads: what is left to try comes to the same

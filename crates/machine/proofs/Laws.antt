@@ -17,7 +17,7 @@ use Rattle.meaning.specs.declared.Outcome.{Outcome}
 use Rattle.meaning.specs.declared.Outcome.the-variants.{Ended}
 use Rattle.words.specs.Words.{plus, ahead}
 use Rattle.simulation.specs.Pushing.{plus-small}
-use Rattle.search.specs.Search.{Backs, no-choice, retries, pops, retried, Calls, no-clause, first-clause, GoesOn, a-cut, no-goal, a-goal, MatchesOn, matched, more, Enters, enters, entered-regs, TriesHead, over-cells, over-steps, tries, MovesPair, same, differ, over-work, cut-regs, MovesCut, cuts, Starts}
+use Rattle.search.specs.Search.{Backs, no-choice, retries, pops, retried, Calls, no-clause, first-clause, GoesOn, a-cut, no-goal, a-goal, MatchesOn, matched, more, Enters, enters, entered-regs, TriesHead, over-cells, over-steps, tries, MovesPair, same, differ, over-work, cut-regs, MovesCut, cuts, Starts, none-wanted, few-cells, starts}
 use Rattle.search.specs.declared.Given.{Given}
 use Rattle.search.specs.declared.Regs.{Regs}
 use Rattle.search.specs.declared.Trial.{Trial}
@@ -27,7 +27,7 @@ use Rattle.answers.specs.Answering.{Answers}
 use Rattle.answers.specs.declared.Wrote.{Wrote}
 use Rattle.answers.specs.declared.Wrote.the-variants.{Bytes, Full, Crowded}
 use Rattle.machine.specs.declared.run.Written.{Written}
-use Rattle.machine.specs.Running.{spent, behind-of, going-on, over-of, ended-of, WritesBehind, written-behind, Lists, no-output, last-wanted, goes-back, full, crowded, Moves, try-late, pair-late, cut-late, tries-one, pairs-one, cuts-one, lists, is-over, MovesPairs, too-late, last-pair, next-pair, TriesPairs, no-pairs, then-pairs, TriesHeads, head-late, last-head, next-head, Turns, one, heads, pairs, RunsFrom, stops, onward, nothing-yet, Runs, runs}
+use Rattle.machine.specs.Running.{spent, behind-of, going-on, over-of, ended-of, WritesBehind, written-behind, Lists, no-output, last-wanted, goes-back, full, crowded, Moves, try-late, pair-late, cut-late, tries-one, pairs-one, cuts-one, lists, is-over, MovesPairs, too-late, last-pair, next-pair, TriesPairs, no-pairs, then-pairs, TriesHeads, head-late, last-head, next-head, NoPair, Turns, one, heads, RunsFrom, stops, onward, nothing-yet, Runs, runs}
 
 pub spend-is : (m : Regs) (u : ℕ) → u ≡ plus (m .units) 1 → _≡_ {A = Regs} (record { cells = m .cells; trail = m .trail; steps = m .steps; choice = m .choice; work = m .work; fresh = m .fresh; next = m .next; units = u }) (spent m)
 unfolding spent
@@ -85,26 +85,72 @@ module _ (d : Due) (m : Regs) where
       unfolding ended-of
       answer-ends q = rw q f
 
+-- ---- between heads no pair is due
+pub backs-apart : {lay : _} {m : Regs} {trail c : ℕ} {w u : List ℕ} {d : Due} → Backs lay m trail c w d u → NoPair d
+unfolding retried
+backs-apart (no-choice h) = tt
+backs-apart (retries h e k) = tt
+backs-apart (pops h e k b) = backs-apart b
+
+pub goes-apart : {file : _} {lay : _} {m : Regs} {w u : List ℕ} {d : Due} → GoesOn file lay m w d u → NoPair d
+goes-apart (a-cut e) = tt
+goes-apart (no-goal e f) = tt
+goes-apart (a-goal e (no-clause k b)) = backs-apart b
+goes-apart (a-goal e (first-clause k)) = tt
+
+cuts-apart : {file : _} {lay : _} {m : Regs} {w u : List ℕ} {d : Due} → MovesCut file lay m w d u → NoPair d
+cuts-apart (cuts b) = goes-apart b
+
+lists-apart : {file : _} {g : Given} {wanted : ℕ} {m : Regs} {t s : Written} {w o v p : List ℕ} {d : Due} → Lists file g wanted m t w o d s v p → NoPair d
+lists-apart (no-output h) = tt
+lists-apart (last-wanted h a e) = tt
+lists-apart (goes-back h a e b) = backs-apart b
+lists-apart (full h a) = tt
+lists-apart (crowded h a) = tt
+
+starts-apart : {file : _} {g : Given} {wanted : ℕ} {w v : List ℕ} {d : Due} → Starts file g wanted w d v → NoPair d
+starts-apart (none-wanted e) = tt
+starts-apart (few-cells e h) = tt
+starts-apart (starts e h b) = goes-apart b
+
+pairs-apart : {file : _} {g : Given} {budget : ℕ} {m : Regs} {d : Due} {w v : List ℕ} → MovesPairs file g budget m w d v → NoPair d
+pairs-apart (too-late h) = tt
+pairs-apart (last-pair h n a) = n
+pairs-apart (next-pair h a b) = pairs-apart b
+
+head-apart : {file : _} {g : Given} {budget : ℕ} {x : Trial} {m : Regs} {d : Due} {w v : List ℕ} → TriesPairs file g budget x m w d v → NoPair d
+head-apart (no-pairs n a) = n
+head-apart (then-pairs a b) = pairs-apart b
+
+heads-apart : {file : _} {g : Given} {budget : ℕ} {x : Trial} {m : Regs} {d : Due} {w v : List ℕ} → TriesHeads file g budget m x w d v → NoPair d
+heads-apart (head-late h) = tt
+heads-apart (last-head h a) = head-apart a
+heads-apart (next-head h a b) = heads-apart b
+
+turns-apart : {file : _} {g : Given} {budget wanted : ℕ} {d n : Due} {t s : Written} {w o v p : List ℕ} → Turns file g budget wanted d t w o n s v p → NoPair n
+turns-apart (one n a) = n
+turns-apart (heads a) = heads-apart a
+
 -- ---- one turn
 module _ (file : List ℕ) (g : Given) (budget wanted : ℕ) (d : Due) (t : Written) (w o : List ℕ) (m : Regs) where
   pub turn-cut-late : d ≡ Cut m → budget ≤ m .units → Turns file g budget wanted d t w o (Over Budget m) t w o
-  turn-cut-late q h = rw q (one (cut-late h))
+  turn-cut-late q h = rw q (one tt (cut-late h))
 
   pub turn-over : (e : End) → d ≡ Over e m → Turns file g budget wanted d t w o (Over e m) t w o
-  turn-over e q = rw q (one is-over)
+  turn-over e q = rw q (one tt is-over)
 
   pub turn-list : (n : Due) (s : Written) (v p : List ℕ) → d ≡ Answer m → Lists file g wanted m t w o n s v p → Turns file g budget wanted d t w o n s v p
-  turn-list n s v p q l = rw q (one (lists l))
+  turn-list n s v p q l = rw q (one (lists-apart l) (lists l))
 
   module _ (n : Due) (v : List ℕ) where
-    pub turn-pairs : d ≡ Pair m → MovesPairs file g budget m w n v → Turns file g budget wanted d t w o n t v o
-    turn-pairs q l = rw q (pairs l)
+    pub turn-pair : NoPair d → d ≡ Pair m → Turns file g budget wanted d t w o n t v o
+    turn-pair h q = absurd (rw q at h)
 
     pub turn-heads : (x : Trial) → d ≡ Try m x → TriesHeads file g budget m x w n v → Turns file g budget wanted d t w o n t v o
     turn-heads x q l = rw q (heads l)
 
     pub turn-cut : (s : Regs) → s ≡ spent m → m .units < budget → d ≡ Cut m → MovesCut file (g .lay) s w n v → Turns file g budget wanted d t w o n t v o
-    turn-cut s f h q l = rw q (one (cuts-one h (rw f at l)))
+    turn-cut s f h q l = rw q (one (cuts-apart l) (cuts-one h (rw f at l)))
 
 -- ---- the rest of the output is lent
 rest-all : (xs : List ℕ) (n : ℕ) → n ≡ length xs → take n xs ≡ xs
@@ -212,12 +258,12 @@ moves-left budget b e is-over = absurd (false≢true e)
 pairs-fewer : {file : _} {g : Given} {m : Regs} {d : Due} {w v : List ℕ} (budget : ℕ) → budget < 2 ^ 32 → MovesPairs file g budget m w d v → left budget d ≤ 2 * (budget - m .units)
 unfolding left
 pairs-fewer budget b (too-late h) = omega arith
-pairs-fewer budget b (last-pair {m = m} h a) = let x = pairs-left budget a in let y = spent-less budget m b h in omega arith
+pairs-fewer budget b (last-pair {m = m} h n a) = let x = pairs-left budget a in let y = spent-less budget m b h in omega arith
 pairs-fewer budget b (next-pair {m = m} h a r) = let x = pairs-left budget a in let y = spent-less budget m b h in let z = pairs-fewer budget b r in omega arith
 
 pub head-fewer : {file : _} {g : Given} {x : Trial} {m : Regs} {d : Due} {w v : List ℕ} (budget : ℕ) → budget < 2 ^ 32 → TriesPairs file g budget x m w d v → left budget d ≤ 2 * (budget - m .units) + 2
 unfolding left
-head-fewer budget b (no-pairs a) = tries-left budget a
+head-fewer budget b (no-pairs n a) = tries-left budget a
 head-fewer budget b (then-pairs a r) = let x = tries-left budget a in let y = pairs-fewer budget b r in omega arith
 
 heads-fewer : {file : _} {g : Given} {x : Trial} {m : Regs} {d : Due} {w v : List ℕ} (budget : ℕ) → budget < 2 ^ 32 → TriesHeads file g budget m x w d v → left budget d ≤ 2 * (budget - m .units)
@@ -236,21 +282,20 @@ next-fewer m budget b h a = let x = head-fewer budget b a in let y = spent-less 
 
 turns-left : {file : _} {g : Given} {wanted : ℕ} {d n : Due} {t s : Written} {w o v p : List ℕ} (budget : ℕ) → budget < 2 ^ 32 → going-on d ≡ true → Turns file g budget wanted d t w o n s v p → left budget n < left budget d
 unfolding left
-turns-left budget b e (one a) = moves-left budget b e a
+turns-left budget b e (one n a) = moves-left budget b e a
 turns-left budget b e (heads a) = let x = heads-fewer budget b a in omega arith
-turns-left budget b e (pairs a) = let x = pairs-fewer budget b a in omega arith
 
 -- a run from behind the moves of heads is a run from their first move
 module _ {file : List ℕ} {g : Given} {budget wanted : ℕ} {t : Written} {o u q : List ℕ} {r : Outcome} where
   run-pairs : {m : Regs} {d : Due} {w v : List ℕ} → MovesPairs file g budget m w d v → RunsFrom file g budget wanted d t v o r u q → RunsFrom file g budget wanted (Pair m) t w o r u q
   unfolding going-on
   run-pairs (too-late h) b = onward refl (pair-late h) b
-  run-pairs (last-pair h a) b = onward refl (pairs-one h a) b
+  run-pairs (last-pair h n a) b = onward refl (pairs-one h a) b
   run-pairs (next-pair h a c) b = onward refl (pairs-one h a) (run-pairs c b)
 
   run-head : {x : Trial} {m : Regs} {d : Due} {w v : List ℕ} → m .units < budget → TriesPairs file g budget x (spent m) w d v → RunsFrom file g budget wanted d t v o r u q → RunsFrom file g budget wanted (Try m x) t w o r u q
   unfolding going-on
-  run-head h (no-pairs a) b = onward refl (tries-one h a) b
+  run-head h (no-pairs n a) b = onward refl (tries-one h a) b
   run-head h (then-pairs a c) b = onward refl (tries-one h a) (run-pairs c b)
 
   run-heads : {x : Trial} {m : Regs} {d : Due} {w v : List ℕ} → TriesHeads file g budget m x w d v → RunsFrom file g budget wanted d t v o r u q → RunsFrom file g budget wanted (Try m x) t w o r u q
@@ -260,23 +305,23 @@ module _ {file : List ℕ} {g : Given} {budget wanted : ℕ} {t : Written} {o u 
   run-heads (next-head h a c) b = run-head h a (run-heads c b)
 
 run-turn : {file : List ℕ} {g : Given} {budget wanted : ℕ} {d n : Due} {t s : Written} {w o v p u q : List ℕ} {r : Outcome} → going-on d ≡ true → Turns file g budget wanted d t w o n s v p → RunsFrom file g budget wanted n s v p r u q → RunsFrom file g budget wanted d t w o r u q
-run-turn e (one a) b = onward e a b
+run-turn e (one n a) b = onward e a b
 run-turn e (heads a) b = run-heads a b
-run-turn e (pairs a) b = run-pairs a b
 
 -- what is still to be run comes to the same
 pub record Running (file : List ℕ) (g : Given) (budget wanted : ℕ) (d₀ : Due) (t₀ : Written) (w₀ o₀ : List ℕ) (d : Due) (t : Written) (w o : List ℕ) : Type 0 where
   pub rest : (r : Outcome) (v p : List ℕ) → RunsFrom file g budget wanted d t w o r v p → RunsFrom file g budget wanted d₀ t₀ w₀ o₀ r v p
   pub words-long : length w ≡ length w₀
   pub bytes-long : length o ≡ length o₀
+  pub apart : NoPair d
 
-pub running-start : (file : List ℕ) (g : Given) (budget wanted : ℕ) (d : Due) (t : Written) (w o : List ℕ) → Running file g budget wanted d t w o d t w o
-running-start file g budget wanted d t w o = record { rest = λ r v p a. a; words-long = refl; bytes-long = refl }
+pub running-start : (file : List ℕ) (g : Given) (budget wanted : ℕ) (d : Due) (t : Written) (w₀ w o : List ℕ) → Starts file g wanted w₀ d w → Running file g budget wanted d t w o d t w o
+running-start file g budget wanted d t w₀ w o s = record { rest = λ r v p a. a; words-long = refl; bytes-long = refl; apart = starts-apart s }
 
 module _ (file : List ℕ) (g : Given) (budget wanted : ℕ) (d₀ : Due) (t₀ : Written) (w₀ o₀ : List ℕ) (d : Due) (t : Written) (w o : List ℕ) (i : Running file g budget wanted d₀ t₀ w₀ o₀ d t w o) (x : Bool) (e : x ≡ going-on d) where
   module _ (f : x ≡ true) (n : Due) (s : Written) (v p : List ℕ) (a : Turns file g budget wanted d t w o n s v p) where
     pub running-again : length v ≡ length w → length p ≡ length o → Running file g budget wanted d₀ t₀ w₀ o₀ n s v p
-    running-again k l = record { rest = λ r u q b. i .rest r u q (run-turn (sym e ∙ f) a b); words-long = k ∙ i .words-long; bytes-long = l ∙ i .bytes-long }
+    running-again k l = record { rest = λ r u q b. i .rest r u q (run-turn (sym e ∙ f) a b); words-long = k ∙ i .words-long; bytes-long = l ∙ i .bytes-long; apart = turns-apart a }
 
     pub running-less : budget < 2 ^ 32 → left budget n < left budget d
     running-less b = turns-left budget b (sym e ∙ f) a

@@ -86,10 +86,18 @@ pub data Leads (file : List ℕ) (lay : Layout) (m : Regs) (r : Matched·pairs) 
   leads-over : r .came ≡ Crowded → Leads file lay m r w (Over Work (matched-regs m r)) w
   leads-late : r .came ≡ Late → Leads file lay m r w (Over Budget (matched-regs m r)) w
 
+-- something else than a pair is due
+abbrev pub NoPair : Due → Type 0
+NoPair (Pair m) = ⊥
+NoPair (Try m x) = Unit {0}
+NoPair (Cut m) = Unit {0}
+NoPair (Answer m) = Unit {0}
+NoPair (Over e m) = Unit {0}
+
 -- the pairs of a head, each for a unit, up to the move that comes to something else
 pub data MovesPairs (file : List ℕ) (g : Given) (budget : ℕ) : Regs → List ℕ → Due → List ℕ → Type 0 where
   too-late : {m : Regs} {w : List ℕ} → budget ≤ m .units → MovesPairs file g budget m w (Over Budget m) w
-  last-pair : {m : Regs} {d : Due} {w v : List ℕ} → m .units < budget → MovesPair file g (spent m) w d v → MovesPairs file g budget m w d v
+  last-pair : {m : Regs} {d : Due} {w v : List ℕ} → m .units < budget → NoPair d → MovesPair file g (spent m) w d v → MovesPairs file g budget m w d v
   next-pair : {m n : Regs} {d : Due} {w v u : List ℕ} → m .units < budget → MovesPair file g (spent m) w (Pair n) v → MovesPairs file g budget n v d u → MovesPairs file g budget m w d u
 
 -- a head that was entered
@@ -99,7 +107,7 @@ pub data MatchesHead (file : List ℕ) (g : Given) (budget : ℕ) (m : Regs) (w 
 
 -- a head, and then its pairs
 pub data TriesPairs (file : List ℕ) (g : Given) (budget : ℕ) (x : Trial) (m : Regs) (w : List ℕ) : Due → List ℕ → Type 0 where
-  no-pairs : {d : Due} {v : List ℕ} → TriesHead file g x m w d v → TriesPairs file g budget x m w d v
+  no-pairs : {d : Due} {v : List ℕ} → NoPair d → TriesHead file g x m w d v → TriesPairs file g budget x m w d v
   then-pairs : {n : Regs} {d : Due} {v u : List ℕ} → TriesHead file g x m w (Pair n) v → MovesPairs file g budget n v d u → TriesPairs file g budget x m w d u
 
 -- heads, as long as one is due
@@ -110,9 +118,8 @@ pub data TriesHeads (file : List ℕ) (g : Given) (budget : ℕ) : Regs → Tria
 
 -- one move, or all moves of heads that follow each other
 pub data Turns (file : List ℕ) (g : Given) (budget wanted : ℕ) : Due → Written → List ℕ → List ℕ → Due → Written → List ℕ → List ℕ → Type 0 where
-  one : {d n : Due} {t s : Written} {w o v p : List ℕ} → Moves file g budget wanted d t w o n s v p → Turns file g budget wanted d t w o n s v p
+  one : {d n : Due} {t s : Written} {w o v p : List ℕ} → NoPair n → Moves file g budget wanted d t w o n s v p → Turns file g budget wanted d t w o n s v p
   heads : {x : Trial} {m : Regs} {d : Due} {t : Written} {w o v : List ℕ} → TriesHeads file g budget m x w d v → Turns file g budget wanted (Try m x) t w o d t v o
-  pairs : {m : Regs} {d : Due} {t : Written} {w o v : List ℕ} → MovesPairs file g budget m w d v → Turns file g budget wanted (Pair m) t w o d t v o
 
 -- from what is due to the end
 pub data RunsFrom (file : List ℕ) (g : Given) (budget wanted : ℕ) : Due → Written → List ℕ → List ℕ → Outcome → List ℕ → List ℕ → Type 0 where

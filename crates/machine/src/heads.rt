@@ -15,7 +15,7 @@ use search::go_on;
 use search::room_for;
 use words::add;
 ghost use mathlib.Core.Path.{_≡_};
-ghost use Rattle.machine.specs.Running.{spent, Leads, MovesPairs, MatchesHead, TriesPairs, TriesHeads};
+ghost use Rattle.machine.specs.Running.{spent, Leads, MatchesHead, TriesPairs, TriesHeads};
 
 // A unit is spent.
 pub fn spend(m: Regs) -> Regs
@@ -45,27 +45,6 @@ fn lead_on(file: &[u8], w: &mut [u32], lay: Layout, m: Regs, r: Matched) -> Due
         Came::Crowded => Due::Over(End::Work, n),
         Came::Late => Due::Over(End::Budget, n),
     }
-}
-
-// The pairs are matched, each for a unit.
-pub fn move_pairs(file: &[u8], w: &mut [u32], g: Given, budget: u32, m: Regs) -> Due
-    ensures { λ r. ⌜ MovesPairs (now (file .entry)) g budget m (now (w .entry)) r (now (w .exit)) ⌝ }
-{
-    let lay = g.lay;
-    let limits = g.limits;
-    let r = match_pairs(
-        file,
-        w,
-        lay,
-        limits.work,
-        budget,
-        m.cells,
-        m.trail,
-        m.work,
-        m.fresh,
-        m.units,
-    );
-    lead_on(file, w, lay, m, r)
 }
 
 // A head that was entered is matched; it may have no pairs.

@@ -1,5 +1,4 @@
 // A run: from what is due to what is due next, until it is over.
-use crate::heads::move_pairs;
 use crate::heads::spend;
 use crate::heads::try_heads;
 use answers::Wrote;
@@ -19,7 +18,7 @@ use words::on;
 ghost use mathlib.Core.Path.{_≡_};
 ghost use Prim.Native.Nat.{_≤_};
 ghost use lib.ListN.{length};
-ghost use Rattle.machine.specs.Running.{going-on, over-of, ended-of, behind-of, WritesBehind, Lists, Turns, Runs};
+ghost use Rattle.machine.specs.Running.{going-on, over-of, ended-of, behind-of, WritesBehind, Lists, NoPair, Turns, Runs};
 
 // What has been written: answers, and bytes of output.
 pub struct Written {
@@ -107,7 +106,7 @@ fn list(
     }
 }
 
-// What is due is done: heads and their pairs, a cut, or an answer.
+// What is due is done: heads and their pairs, a cut, or an answer. Between heads no pair is due.
 fn one_turn(
     file: &[u8],
     w: &mut [u32],
@@ -118,6 +117,7 @@ fn one_turn(
     d: Due,
     t: Written,
 ) -> Turn
+    requires { ⌜ NoPair d ⌝ }
     ensures { λ r. ⌜ Turns (now (file .entry)) g budget wanted d t (now (w .entry)) (now (out .entry)) (r .due) (r .written) (now (w .exit)) (now (out .exit)) ⌝ }
 {
     match d {
@@ -126,7 +126,7 @@ fn one_turn(
             written: t,
         },
         Due::Pair(m) => Turn {
-            due: move_pairs(file, w, g, budget, m),
+            due: Due::Pair(m),
             written: t,
         },
         Due::Cut(m) => {

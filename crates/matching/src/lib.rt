@@ -269,11 +269,11 @@ pub enum Came {
 
 // That, and what the matching had come to: bindings, pairs left, the first cell that no goal mentions, units spent.
 pub struct Matched {
-    pub came: Came,
     pub trail: u32,
+    pub came: Came,
     pub work: u32,
-    pub fresh: u32,
     pub units: u32,
+    pub fresh: u32,
 }
 
 // The pairs are taken in turn, each for a unit.

@@ -46,12 +46,12 @@ pub struct Next {
 pub struct Regs {
     pub cells: u32,
     pub trail: u32,
+    pub units: u32,
     pub steps: u32,
     pub choice: u32,
     pub work: u32,
     pub fresh: u32,
     pub next: Next,
-    pub units: u32,
 }
 
 // A goal and a clause to try for it: the goal's place, the cells of its variables, and the goals behind it.
@@ -239,7 +239,22 @@ fn call(file: &[u8], w: &mut [u32], lay: Layout, m: Regs, n: Next) -> Due
         return back(w, lay, m);
     }
     let t = first_trial(file, w, lay, n, v - 1);
-    Due::Try(m, t)
+    let rest = m.next;
+    let q = rest.place;
+    let now = Regs {
+        cells: m.cells,
+        trail: m.trail,
+        units: m.units,
+        steps: m.steps,
+        choice: m.choice,
+        work: m.work,
+        fresh: m.fresh,
+        next: Next {
+            place: q,
+            step: rest.step,
+        },
+    };
+    Due::Try(now, t)
 }
 
 // The record of a step: its clause, the goal, the goals behind it, and how far the run was.
