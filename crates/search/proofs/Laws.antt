@@ -22,7 +22,7 @@ use Rattle.cells.specs.declared.Held.{Held}
 use Rattle.cells.specs.declared.Layout.{Layout}
 use Rattle.matching.specs.Matching.{put-four, word-of-place, place-after, past-kind, pushed}
 use Rattle.search.specs.Search.{step-word, step-next, settled-next, clause-place-word, clause-next-word, below-of, rest-word, retried, Backs, no-choice, retries, pops}
-use Rattle.search.specs.Search.{trial-of, Calls, no-clause, first-clause, GoesOn, a-cut, no-goal, a-goal, step-put, room-of, arity-at, paired, entered-regs, entered-words, Enters, enters, kept-of, cut-regs, MovesCut, cuts, start-regs, Starts, none-wanted, few-cells, starts}
+use Rattle.search.specs.Search.{trial-of, first-word, Calls, no-clause, first-clause, GoesOn, a-cut, no-goal, a-goal, step-put, room-of, arity-at, paired, entered-regs, entered-words, Enters, enters, kept-of, cut-regs, MovesCut, cuts, start-regs, Starts, none-wanted, few-cells, starts}
 use Rattle.search.specs.declared.Limits.{Limits}
 use Rattle.search.specs.declared.Given.{Given}
 use Rattle.search.specs.declared.Next.{Next}
@@ -94,7 +94,7 @@ unfolding rest-word
 rest-read w lay c a b p q e f g h = rw (f, e, h, g) refl
 
 pub retry-is : (w : List ℕ) (lay : Layout) (m : Regs) (trail c steps prior k : ℕ) (n : Next) (g a d : ℕ) → n ≡ step-next w lay c → g ≡ step-word w lay c 1 → a ≡ step-word w lay c 2 → d ≡ step-word w lay c 5
-    → Try (record { cells = d; trail = trail; steps = steps; choice = prior; work = m .work; fresh = m .fresh; next = m .next; units = m .units }) (record { clause = record { 0 = k }; goal = record { 0 = g }; caller = record { 0 = a }; next = n }) ≡ retried w lay m trail c steps prior k
+    → Try (record { cells = d; trail = trail; steps = steps; choice = prior; work = m .work; fresh = m .fresh; next = record { place = m .next .place; step = m .next .step }; units = m .units }) (record { clause = record { 0 = k }; goal = record { 0 = g }; caller = record { 0 = a }; next = n }) ≡ retried w lay m trail c steps prior k
 unfolding retried
 retry-is w lay m trail c steps prior k n g a d e f h i = rw (e, f, h, i) refl
 
@@ -130,18 +130,9 @@ pub trial-is : (file w : List ℕ) (lay : Layout) (n : Next) (k a : ℕ) (p : Pl
 unfolding trial-of
 trial-is file w lay n k a p x e f g = rw (g, e, f) refl
 
-module _ (file : List ℕ) (lay : Layout) (m : Regs) (n : Next) (w : List ℕ) (q v : ℕ) (e : q ≡ two-bytes file (n .place .0 + 1)) (f : v ≡ getD w (lay .firsts + q) 0) where
-  first-word : v ≡ getD w (lay .firsts + two-bytes file (n .place .0 + 1)) 0
-  first-word = rw e at f
-
-  pub call-none : (d : Due) (u : List ℕ) → v ≡ 0 → Backs lay m (m .trail) (m .choice) w d u → Calls file lay m n w d u
-  call-none d u z b = no-clause (sym first-word ∙ z) b
-
-  pub call-first : (t : Trial) → (v ≡ 0 → ⊥) → t ≡ trial-of file w lay n (v - 1) → Calls file lay m n w (Try m t) w
-  call-first t z g = rw g (first-clause (sym first-word ∙ one-more v z))
-    where
-      one-more : (v : ℕ) → (v ≡ 0 → ⊥) → v ≡ suc (v - 1)
-      one-more v n = omega arith
+pub first-is : (file w : List ℕ) (lay : Layout) (p : Place) (q v : ℕ) → q ≡ two-bytes file (p .0 + 1) → v ≡ getD w (lay .firsts + q) 0 → v ≡ first-word file w lay p
+unfolding first-word
+first-is file w lay p q v e f = rw e at f
 
 module _ (file : List ℕ) (lay : Layout) (m : Regs) (w : List ℕ) (k : ℕ) (e : k ≡ byte file (m .next .place .0)) where
   pub go-cut : k ≡ 7 → GoesOn file lay m w (Cut m) w
@@ -150,8 +141,17 @@ module _ (file : List ℕ) (lay : Layout) (m : Regs) (w : List ℕ) (k : ℕ) (e
   pub go-answer : (k ≡ 7 → ⊥) → (k ≡ 6 → ⊥) → GoesOn file lay m w (Answer m) w
   go-answer s t = no-goal (λ q. s (e ∙ q)) (λ q. t (e ∙ q))
 
-  pub go-goal : (d : Due) (v : List ℕ) → k ≡ 6 → Calls file lay m (m .next) w d v → GoesOn file lay m w d v
-  go-goal d v t c = a-goal (sym e ∙ t) c
+  module _ (t : k ≡ 6) (v : ℕ) (f : v ≡ first-word file w lay (m .next .place)) where
+    pub go-none : (d : Due) (u : List ℕ) → v ≡ 0 → Backs lay m (m .trail) (m .choice) w d u → GoesOn file lay m w d u
+    unfolding first-word
+    go-none d u z b = a-goal (sym e ∙ t) (no-clause (sym f ∙ z) b)
+
+    pub go-first : (x : Trial) → (v ≡ 0 → ⊥) → x ≡ trial-of file w lay (m .next) (v - 1) → GoesOn file lay m w (Try m x) w
+    unfolding first-word
+    go-first x z g = rw g (a-goal (sym e ∙ t) (first-clause (sym f ∙ one-more v z)))
+      where
+        one-more : (v : ℕ) → (v ≡ 0 → ⊥) → v ≡ suc (v - 1)
+        one-more v n = omega arith
 
 -- ---- trying a head
 pub step-is-put : (lay : Layout) (t : Trial) (m : Regs) (w v u : List ℕ) (x y : ℕ) → x ≡ word-of-place (t .goal) → y ≡ word-of-place (t .next .place) → v ≡ put-four w (lay .steps + 8 * m .steps) (t .clause .0) x (t .caller .0) y

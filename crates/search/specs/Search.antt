@@ -82,6 +82,10 @@ trial-of file w lay n k = record {
   next = settled-next file w lay (record { place = place-after w (n .place); step = n .step });
 }
 
+-- the first clause of the goal at a place, from 1; 0 is none
+unfoldable pub first-word : List ℕ → List ℕ → Layout → Place → ℕ
+first-word file w lay p = getD w (lay .firsts + two-bytes file (p .0 + 1)) 0
+
 -- the predicate goal at n is called: it has no clause, or its first one is to be tried
 pub data Calls (file : List ℕ) (lay : Layout) (m : Regs) (n : Next) (w : List ℕ) : Due → List ℕ → Type 0 where
   no-clause : {d : Due} {v : List ℕ} → getD w (lay .firsts + two-bytes file (n .place .0 + 1)) 0 ≡ 0 → Backs lay m (m .trail) (m .choice) w d v → Calls file lay m n w d v

@@ -19,7 +19,7 @@ use words::get;
 use words::number_after;
 use words::on;
 ghost use mathlib.Core.Path.{_≡_};
-ghost use Rattle.search.specs.Search.{step-word, settled-next, clause-place-word, clause-next-word, below-of, step-next, rest-word, retried, Backs, trial-of, GoesOn, Calls, step-put, room-of, arity-at, paired, entered-regs, Enters, kept-of, MovesCut, Starts};
+ghost use Rattle.search.specs.Search.{step-word, settled-next, clause-place-word, clause-next-word, below-of, step-next, rest-word, retried, Backs, trial-of, first-word, GoesOn, step-put, room-of, arity-at, paired, entered-regs, Enters, kept-of, MovesCut, Starts};
 
 pub struct Limits {
     pub cells: u32,
@@ -155,12 +155,20 @@ fn retry(w: &[u32], lay: Layout, m: Regs, trail: u32, c: u32, steps: u32, prior:
         caller: CellNumber(read_step(w, lay, c, 2)),
         next,
     };
+    let rest = m.next;
+    let p = rest.place;
     let n = Regs {
         cells: read_step(w, lay, c, 5),
         trail,
+        units: m.units,
         steps,
         choice: prior,
-        ..m
+        work: m.work,
+        fresh: m.fresh,
+        next: Next {
+            place: p,
+            step: rest.step,
+        },
     };
     Due::Try(n, t)
 }
@@ -210,7 +218,17 @@ fn first_trial(file: &[u8], w: &[u32], lay: Layout, n: Next, k: u32) -> Trial
     }
 }
 
-// The first open goal is taken.
+// The first clause of the goal at a place, from 1; 0 is none.
+fn first_clause(file: &[u8], w: &[u32], lay: Layout, p: Place) -> u32
+    ensures { λ r. ⌜ r ≡ first-word (now (file .entry)) (now (w .entry)) lay p ⌝ }
+{
+    get(
+        w,
+        (lay.firsts as usize) + (number_after(file, p.0) as usize),
+    )
+}
+
+// The first open goal is taken: a predicate goal is called.
 pub fn go_on(file: &[u8], w: &mut [u32], lay: Layout, m: Regs) -> Due
     ensures { λ r. ⌜ GoesOn (now (file .entry)) lay m (now (w .entry)) r (now (w .exit)) ⌝ }
 {
@@ -223,24 +241,11 @@ pub fn go_on(file: &[u8], w: &mut [u32], lay: Layout, m: Regs) -> Due
     if kind != 6 {
         return Due::Answer(m);
     }
-    call(file, w, lay, m, n)
-}
-
-// A predicate goal is called.
-fn call(file: &[u8], w: &mut [u32], lay: Layout, m: Regs, n: Next) -> Due
-    ensures { λ r. ⌜ Calls (now (file .entry)) lay m n (now (w .entry)) r (now (w .exit)) ⌝ }
-{
-    let p = n.place;
-    let v = get(
-        w,
-        (lay.firsts as usize) + (number_after(file, p.0) as usize),
-    );
+    let v = first_clause(file, w, lay, p);
     if v == 0 {
         return back(w, lay, m);
     }
     let t = first_trial(file, w, lay, n, v - 1);
-    let rest = m.next;
-    let q = rest.place;
     let now = Regs {
         cells: m.cells,
         trail: m.trail,
@@ -250,8 +255,8 @@ fn call(file: &[u8], w: &mut [u32], lay: Layout, m: Regs, n: Next) -> Due
         work: m.work,
         fresh: m.fresh,
         next: Next {
-            place: q,
-            step: rest.step,
+            place: p,
+            step: n.step,
         },
     };
     Due::Try(now, t)
