@@ -5,6 +5,7 @@ mod common;
 
 use common::*;
 use second::call::{call, Limits, Outcome};
+use second::cases::bytes;
 use second::damage;
 use second::end::Refusal;
 use second::reading::{check, read};

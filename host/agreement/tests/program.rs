@@ -24,41 +24,35 @@ fn written(program: &PathBuf, file: &[u8]) -> (Vec<u8>, Option<i32>) {
 }
 
 #[test]
-fn the_lines_of_document_01() {
+fn the_lines_of_stops_and_refusals() {
     let program = small_program("program_lines");
-    let lines = |file: &[u8], due: &str, answers: &str, status| {
-        let due = [due.as_bytes(), b"\n", &bytes(answers)].concat();
+    let line = |file: &[u8], due: &str, status| {
+        let due = format!("{due}\n").into_bytes();
         assert_eq!(written(&program, file), (due, Some(status)));
     };
-    let answers = "0A 00 00 00 01 05 00 00 05 00 01 05 00 02 05 00 00 0C 00 00 0D
-        0A 00 00 00 02 05 00 01 05 00 02 05 00 00 05 00 00 0C 00 01 0C 00 00 0D";
-    lines(APPEND, "end 20 answers 2 units 18 bytes 45", answers, 0);
-    let mut bad = APPEND.to_vec();
-    bad[13] = 6;
-    lines(&bad, "refused 5 at 13", "", 1);
-    lines(&[], "refused 4 at 0", "", 1);
-    lines(&length(4_001), "refused 2 at 0", "", 1);
-    lines(&[0; 100_000], "refused 2 at 0", "", 1);
+    line(&[], "refused 4 at 0", 1);
+    line(&length(4_001), "refused 2 at 0", 1);
+    line(&[0; 100_000], "refused 2 at 0", 1);
     // Each step takes a unit, and the 401st is one too many.
     let steps = file("p :- p. ?- p.");
-    let line = "end 24 answers 0 units 401 bytes 0 limits too small";
-    lines(&steps, line, "", 0);
+    let due = "end 24 answers 0 units 401 bytes 0 limits too small";
+    line(&steps, due, 0);
     // Each step takes a unit and 8 cells, and 125 steps take all 1,000.
     let cells = file("p :- p, q(A,B,C,D,E,F,G,H). ?- p.");
-    let line = "end 23 answers 0 units 126 bytes 0 limits too small";
-    lines(&cells, line, "", 0);
+    let due = "end 23 answers 0 units 126 bytes 0 limits too small";
+    line(&cells, due, 0);
     // There are 5 pairs; each of the 28 nodes takes one and puts 8 in front.
     let value = format!("{}a{}", "g(".repeat(28), ",a,a,a,a,a,a,a)".repeat(28));
     let work = file(&format!("p({value},a,a,a,a). ?- p({value},a,a,a,a)."));
-    let line = "end 25 answers 0 units 29 bytes 0 limits too small";
-    lines(&work, line, "", 0);
+    let due = "end 25 answers 0 units 29 bytes 0 limits too small";
+    line(&work, due, 0);
     // Three units a step, so the budget of 1,000 ends before the 400 steps do.
     let budget = file("p(X,Y) :- p(X,Y). ?- p(a,a).");
-    lines(&budget, "end 22 answers 0 units 1000 bytes 0", "", 0);
+    line(&budget, "end 22 answers 0 units 1000 bytes 0", 0);
     // Two values of 1 and 27 times 8 nodes, three bytes each, pass the room.
     let value = format!("{}a{}", "g(".repeat(27), ",a,a,a,a,a,a,a)".repeat(27));
     let output = file(&format!("p({value},{value}). ?- p(X,Y)."));
-    lines(&output, "end 26 answers 0 units 3 bytes 0", "", 0);
+    line(&output, "end 26 answers 0 units 3 bytes 0", 0);
 }
 
 #[test]

@@ -26,12 +26,6 @@ pub const SETTINGS: Settings = Settings {
     room: 10_000,
 };
 
-/// Bytes from their two-digit form.
-pub fn bytes(text: &str) -> Vec<u8> {
-    let byte = |word| u8::from_str_radix(word, 16).expect("two digits");
-    text.split_whitespace().map(byte).collect()
-}
-
 /// A call with exactly the scratch it needs; the outcome and the bytes written.
 pub fn run(file: &[u8], settings: Settings) -> (Outcome, Vec<u8>) {
     let mut scratch = vec![0; settings.limits.scratch(file.len())];

@@ -70,9 +70,3 @@ pub fn said(program: &Path, input: &[u8]) -> (String, Option<i32>) {
     let said = String::from_utf8_lossy(&ended.stdout).into_owned();
     (said, ended.status.code())
 }
-
-/// Bytes from their two-digit form.
-pub fn bytes(text: &str) -> Vec<u8> {
-    let byte = |word| u8::from_str_radix(word, 16).expect("two digits");
-    text.split_whitespace().map(byte).collect()
-}
