@@ -24,6 +24,9 @@ build/pegplanet: program/pegplanet.c include/pegplanet.h lib
 build/assemble build/extract: build/%: examples/horn/%.c include/pegplanet.h lib
 	$(LINK)
 
+build/memory: host/agreement/tests/memory.c include/pegplanet.h lib
+	$(LINK)
+
 # build/ is apart from target/, which the gate removes; an archive that has not changed keeps its date
 lib:
 	rt staticlib embedded
@@ -41,8 +44,15 @@ test:
 	bash .ci/run
 
 bench: lib
-	cd host/agreement && cargo build --release --offline
+	cd host/agreement && cargo build --release --offline && cargo test --release --offline --test rooms -- --ignored
 	host/agreement/target/release/agreement 200000
 	host/agreement/target/release/agreement_calls 1000000
 	host/agreement/target/release/bench_reading
 	host/agreement/target/release/bench_calls
+
+# what reads behind its files must be found
+WATCHED = valgrind -q --error-exitcode=9 --leak-check=full build/memory heap
+valgrind: build/memory
+	cd host/agreement && cargo build --release --offline
+	host/agreement/target/release/memory 20000 $(WATCHED)
+	! host/agreement/target/release/memory 2 $(WATCHED) past 2> build/memory.errors

@@ -1,5 +1,5 @@
 //! The time of a whole call, by the library and by the second program, for
-//! several example programs.
+//! several example programs; and of case A in the embedded form.
 
 use std::hint::black_box;
 use std::time::Instant;
@@ -8,6 +8,7 @@ use agreement::calls::{told, Both, Call};
 use agreement::library;
 use second::assemble::file;
 use second::call::{Limits, Memory, Outcome};
+use second::cases::programs;
 use second::examples::*;
 use second::generate::Case;
 
@@ -55,7 +56,23 @@ fn least(case: &Case) -> (f64, f64) {
     least
 }
 
+/// The least time of case A in the embedded form, in microseconds.
+fn embedded() -> f64 {
+    let file = &programs()[0].file;
+    let mut out = [0; 1_000];
+    let rounds = (0..ROUNDS).map(|_| {
+        time(1_000, || {
+            let packed = library::run(black_box(file), 1_000, 1_000, &mut out);
+            assert_eq!(black_box(packed), 20 << 32 | 45);
+        })
+    });
+    rounds.fold(f64::INFINITY, f64::min)
+}
+
 fn main() {
+    let call = embedded();
+    let second = 1e6 / call;
+    println!("pegplanet_run on case A: {call:.2} us a call, {second:.0} calls a second");
     // Each with the answers it has; the second looks for more without end.
     let programs = [
         ("naive reverse of 30", naive_reverse(30), 1),
