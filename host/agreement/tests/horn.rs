@@ -48,12 +48,13 @@ fn the_assembler_makes_the_house_rules() {
 }
 
 #[test]
-fn the_assembler_makes_case_a() {
-    let text = "functions nil/0, cons/2, a/0. predicates app/3.
-        app(nil, L, L).
-        app(cons(Head, Tail), L, cons(Head, Rest)) :- app(Tail, L, Rest). % as in document 01
-        ?- app(X, Y, cons(a, nil)).";
-    assert_eq!(assembled(&assembler("horn_append"), text), APPEND);
+fn the_rules_of_the_page_are_case_a() {
+    let page = std::fs::read_to_string(path("README.md")).expect("the page");
+    let after = page.split_once("    functions").expect("rules").1;
+    let rules = after.split_once("\n\n").expect("their end").0;
+    let assembler = assembler("horn_page");
+    let file = assembled(&assembler, &format!("functions{rules} % as in document 01"));
+    assert_eq!(file, APPEND);
 }
 
 #[test]
