@@ -99,7 +99,10 @@ static int declared(const struct names *names) {
 static void declare(struct names *names, const char *what, int kind) {
     read_word();
     need(strcmp(word, what) == 0, "functions are declared, then predicates");
-    do {
+    while (!taken('.')) {
+        if (names->count > 0) {
+            expect(',');
+        }
         read_word();
         need(find(names) == names->count, "a name is declared once");
         expect('/');
@@ -107,8 +110,7 @@ static void declare(struct names *names, const char *what, int kind) {
         add(names, arity);
         put(kind);
         put(arity);
-    } while (taken(','));
-    expect('.');
+    }
 }
 
 static void term(void);

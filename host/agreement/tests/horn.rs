@@ -55,6 +55,8 @@ fn the_rules_of_the_page_are_case_a() {
     let assembler = assembler("horn_page");
     let file = assembled(&assembler, &format!("functions{rules} % as in document 01"));
     assert_eq!(file, APPEND);
+    let none = assembled(&assembler, "functions. predicates. ?- .");
+    assert_eq!(none, [8, 0, 0, 9]);
 }
 
 #[test]

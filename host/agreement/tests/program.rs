@@ -86,7 +86,9 @@ fn it_says_when_it_cannot_read_or_write() {
     // Nothing can be written to a full device.
     if let Ok(full) = File::options().write(true).open("/dev/full") {
         let append = File::open(path("examples/append.rules")).expect("case A");
-        let status = Command::new(&program).stdin(append).stdout(full).status();
-        assert_eq!(status.expect("it runs").code(), Some(2));
+        let ended = Command::new(&program).stdin(append).stdout(full).output();
+        let ended = ended.expect("it runs");
+        assert_eq!(ended.status.code(), Some(2));
+        assert!(!ended.stderr.is_empty());
     }
 }

@@ -1,4 +1,5 @@
-//! What `make install` puts in place serves a program elsewhere.
+//! What `make` shows, and that what `make install` puts in place serves a
+//! program elsewhere.
 
 mod common;
 
@@ -7,22 +8,35 @@ use std::process::Command;
 
 use common::*;
 
+/// What make writes for these words. The library is there, and is not proved
+/// again.
+fn make(words: &[&str]) -> (String, String) {
+    let mut make = Command::new("make");
+    make.current_dir(path(".")).env_remove("MAKEFLAGS");
+    let ended = run(make.args(["-o", "lib"]).args(words), &[]);
+    let text = |bytes: &[u8]| String::from_utf8_lossy(bytes).into_owned();
+    let (out, errors) = (text(&ended.stdout), text(&ended.stderr));
+    assert!(ended.status.success(), "{out}{errors}");
+    (out, errors)
+}
+
 #[test]
-fn an_installed_library_serves_by_its_flags_for_pkg_config() {
+fn it_shows_case_a_and_the_part_and_installs_the_library() {
+    let (out, errors) = make(&[]);
+    assert!(
+        out.contains("\nend 20 answers 2 units 18 bytes 45\n"),
+        "{out}"
+    );
+    let part = fs::read_to_string(path("examples/horn/part.txt")).expect("the part");
+    assert!(out.contains(&part), "{out}");
+    assert!(errors.contains("warning: bars 3 and 4: the machine was stopped, end 22"));
+
     let prefix = own("installed");
     drop(fs::remove_dir_all(&prefix));
     let at = prefix.display().to_string();
-    // The library is there, and is not proved again.
-    let mut make = Command::new("make");
-    make.current_dir(path(".")).env_remove("MAKEFLAGS");
-    make.args(["-o", "lib", "install", &format!("PREFIX={at}")]);
-    let ended = run(&mut make, &[]);
-    let errors = String::from_utf8_lossy(&ended.stderr);
-    assert!(ended.status.success(), "{errors}");
-
+    make(&["install", &format!("PREFIX={at}")]);
     let (line, _) = said(&prefix.join("bin/pegplanet"), APPEND);
     assert!(line.starts_with("end 20 answers 2 units 18 bytes 45\n"));
-
     let flags = fs::read_to_string(prefix.join("lib/pkgconfig/pegplanet.pc")).expect("flags");
     assert!(flags.contains(&format!("prefix={at}\n")), "{flags}");
     let given = |name: &str| -> Vec<String> {
