@@ -1,6 +1,6 @@
 //! The stored table of the programs run by hand in document 01, cases.txt.
 
-use crate::call::{Limits, EMBEDDED};
+use crate::call::{Case, EMBEDDED};
 
 const TABLE: &str = include_str!("../cases.txt");
 
@@ -16,22 +16,19 @@ pub struct Program {
 /// A run: what it gets, and the line that it has to come to.
 #[derive(Clone, Debug)]
 pub struct Run {
-    pub limits: Limits,
-    pub budget: u32,
-    pub wanted: u32,
-    pub room: usize,
+    pub case: Case,
     pub line: String,
 }
 
 impl Run {
     /// Whether the small program can carry it out.
     pub fn is_plain(&self) -> bool {
-        self.is_embedded() && [self.budget, self.wanted, self.room as u32] == [1_000; 3]
+        self.case == Case::new(&self.case.file, EMBEDDED)
     }
 
     /// Whether the embedded form can carry it out.
     pub fn is_embedded(&self) -> bool {
-        self.limits == EMBEDDED
+        self.case.limits == EMBEDDED
     }
 
     /// The number that follows a word in the line; 0 where the word is missing.
@@ -57,26 +54,22 @@ pub fn bytes(text: &str) -> Vec<u8> {
     text.split_whitespace().map(byte).collect()
 }
 
-fn run(settings: &str, line: &str) -> Run {
-    let mut run = Run {
-        limits: EMBEDDED,
-        budget: 1_000,
-        wanted: 1_000,
-        room: 1_000,
-        line: line.to_string(),
-    };
+fn run(file: &[u8], settings: &str, line: &str) -> Run {
+    let mut case = Case::new(file, EMBEDDED);
     if let Some((name, value)) = settings.trim().split_once(' ') {
-        let value = number(value);
+        let value = number(value) as u32;
         match name {
-            "budget" => run.budget = value as u32,
-            "wanted" => run.wanted = value as u32,
-            "room" => run.room = value,
-            "cells" => run.limits.cells = value as u32,
-            "steps" => run.limits.steps = value as u32,
+            "budget" => case.budget = value,
+            "wanted" => case.wanted = value,
+            "room" => case.room = value as usize,
+            "cells" => case.limits.cells = value,
+            "steps" => case.limits.steps = value,
             _ => panic!("{settings} is no setting"),
         }
+        case.scratch_len = case.limits.scratch(file.len());
     }
-    run
+    let line = line.to_string();
+    Run { case, line }
 }
 
 /// All programs of the table.
@@ -101,7 +94,7 @@ pub fn programs() -> Vec<Program> {
             program.answers.push(bytes(answer));
         } else if let Some((settings, line)) = line.split_once(": ") {
             let settings = settings.strip_prefix("run").expect("a run");
-            program.runs.push(run(settings, line));
+            program.runs.push(run(&program.file, settings, line));
         } else {
             panic!("{line} is no line of the table");
         }

@@ -16,13 +16,7 @@ fn every_run_of_the_table() {
     let mut runs = 0;
     for program in programs() {
         for due in &program.runs {
-            let settings = Settings {
-                limits: due.limits,
-                budget: due.budget,
-                wanted: due.wanted,
-                room: due.room,
-            };
-            let (outcome, out) = run(&program.file, settings);
+            let (outcome, out) = called(&due.case);
             assert_eq!(
                 line(&outcome),
                 format!("{}\n", due.line),

@@ -31,14 +31,7 @@ fn line(call: &Call, memory: &mut Memory) -> (Outcome, String) {
     let case = &call.case;
     let mut scratch = vec![0; case.scratch_len];
     let mut out = vec![0; case.room];
-    let outcome = memory.call(
-        &case.file,
-        case.limits,
-        case.budget,
-        case.wanted,
-        &mut scratch,
-        &mut out,
-    );
+    let outcome = case.call(memory, &mut scratch, &mut out);
     let told = told(&outcome);
     let told_sum = match call.words {
         0..=4 => 0,

@@ -4,51 +4,36 @@
 use agreement::calls::{compare, from_seed, thresholds, Both, Call, Tally};
 use agreement::library::{call, run};
 use second::assemble::file;
-use second::call::{Limits, Outcome};
+use second::call::{Case, Limits, Outcome};
 use second::damage::length;
 use second::examples::naive_reverse;
-use second::generate::{good_program, Case};
+use second::generate::good_program;
 use second::random::Random;
 use second::random_programs::wide_and_deep;
 
 const APPEND: &[u8] = include_bytes!("../../../examples/append.rules");
 
-/// What a call needs beside its file.
-#[derive(Clone, Copy)]
-struct Settings {
-    limits: Limits,
-    budget: u32,
-    wanted: u32,
-    room: usize,
-}
-
-/// Settings that no small case reaches.
-const AMPLE: Settings = Settings {
-    limits: Limits {
+/// A call of a file that no small program brings to a stop.
+fn ample(file: &[u8]) -> Case {
+    let limits = Limits {
         cells: 500,
         steps: 300,
         work: 100,
-    },
-    budget: 10_000,
-    wanted: 1_000,
-    room: 10_000,
-};
+    };
+    Case {
+        budget: 10_000,
+        room: 10_000,
+        ..Case::new(file, limits)
+    }
+}
 
 /// End or refusal, place, answers and units of a library call, and the bytes
 /// it wrote.
-fn library(file: &[u8], settings: Settings) -> ([u64; 4], Vec<u8>) {
-    let mut scratch = vec![0xABCD_1234; settings.limits.scratch(file.len())];
-    let mut out = vec![0x5A; settings.room];
+fn library(case: &Case) -> ([u64; 4], Vec<u8>) {
+    let mut scratch = vec![0xABCD_1234; case.scratch_len];
+    let mut out = vec![0x5A; case.room];
     let mut result = [7; 12];
-    call(
-        file,
-        settings.limits,
-        settings.budget,
-        settings.wanted,
-        &mut scratch,
-        &mut out,
-        &mut result,
-    );
+    call(case, &mut scratch, &mut out, &mut result);
     let [number, place, answers, units, written, ..] = result;
     assert_eq!(result[5..], [0; 7]);
     let rest = out.split_off(written as usize);
@@ -58,19 +43,16 @@ fn library(file: &[u8], settings: Settings) -> ([u64; 4], Vec<u8>) {
 
 #[test]
 fn refusals_before_and_in_the_file() {
-    let limits = |cells, steps, work| Settings {
-        limits: Limits { cells, steps, work },
-        ..AMPLE
-    };
     let refused = |number, place| ([number, place, 0, 0], vec![]);
-    for bad in [limits(0, 9, 9), limits(9, 60_001, 9), limits(9, 9, 7)] {
-        assert_eq!(library(APPEND, bad), refused(1, 0));
+    for (cells, steps, work) in [(0, 9, 9), (9, 60_001, 9), (9, 9, 7)] {
+        let limits = Limits { cells, steps, work };
+        assert_eq!(library(&Case::new(APPEND, limits)), refused(1, 0));
     }
-    assert_eq!(library(&[9; 60_001], AMPLE), refused(2, 0));
-    assert_eq!(library(&[9; 60_000], AMPLE), refused(5, 0));
-    assert_eq!(library(&APPEND[..69], AMPLE), refused(4, 69));
+    assert_eq!(library(&ample(&[9; 60_001])), refused(2, 0));
+    assert_eq!(library(&ample(&[9; 60_000])), refused(5, 0));
+    assert_eq!(library(&ample(&APPEND[..69])), refused(4, 69));
     let longer = [APPEND, &[9]].concat();
-    assert_eq!(library(&longer, AMPLE), refused(9, 70));
+    assert_eq!(library(&ample(&longer)), refused(9, 70));
 }
 
 #[test]
@@ -94,23 +76,23 @@ fn naive_reverse_of_thirty() {
     answer.extend(&list[180..]);
     answer.extend(steps.iter().flat_map(|&clause| [0x0C, 0, clause]));
     answer.push(0x0D);
-    let large = Settings {
-        limits: Limits {
+    let with_steps = |steps| {
+        let limits = Limits {
             cells: 4_000,
-            steps: 496,
+            steps,
             work: 100,
-        },
-        ..AMPLE
+        };
+        library(&Case {
+            budget: 10_000,
+            room: 10_000,
+            ..Case::new(&reverse, limits)
+        })
     };
-    let ([end, _, answers, _], out) = library(&reverse, large);
+    let ([end, _, answers, _], out) = with_steps(496);
     assert_eq!((end, answers), (20, 1));
     assert_eq!(out, answer);
     // With one step less there is no answer.
-    let limits = Limits {
-        steps: 495,
-        ..large.limits
-    };
-    let ([end, _, answers, _], out) = library(&reverse, Settings { limits, ..large });
+    let ([end, _, answers, _], out) = with_steps(495);
     assert_eq!((end, answers, out), (24, 0, vec![]));
 }
 
@@ -195,17 +177,6 @@ fn a_call_twice_and_with_other_contents_of_its_buffers() {
             said.push(both.agreed(&call).expect("no difference"));
         }
         assert!(said[0] == said[1] && said[1] == said[2], "{seed}: {said:?}");
-    }
-}
-
-#[test]
-fn calls_from_several_threads_at_once() {
-    let thread = |first| {
-        std::thread::spawn(move || compare(from_seed(first).take(1_000)).expect("no difference"))
-    };
-    for thread in [40_000, 50_000, 60_000, 70_000].map(thread) {
-        let tally = thread.join().expect("the thread ends");
-        assert_eq!(tally.calls(), 1_000);
     }
 }
 

@@ -19,18 +19,10 @@ fn by_the_whole_call() {
     let mut runs = 0;
     for program in programs() {
         for run in &program.runs {
-            let mut scratch = vec![0xABCD_1234; run.limits.scratch(program.file.len())];
-            let mut out = vec![0x5A; run.room];
+            let mut scratch = vec![0xABCD_1234; run.case.scratch_len];
+            let mut out = vec![0x5A; run.case.room];
             let mut result = [7; 12];
-            call(
-                &program.file,
-                run.limits,
-                run.budget,
-                run.wanted,
-                &mut scratch,
-                &mut out,
-                &mut result,
-            );
+            call(&run.case, &mut scratch, &mut out, &mut result);
             let mut due = [0; 12];
             due[0] = upper(run);
             let words = ["at", "answers", "units", "bytes"];
@@ -39,7 +31,7 @@ fn by_the_whole_call() {
             }
             assert_eq!(result, due, "{}: {}", program.name, run.line);
             let mut bytes = run.bytes(&program);
-            bytes.resize(run.room, 0x5A);
+            bytes.resize(run.case.room, 0x5A);
             assert!(out == bytes, "{}: {}", program.name, run.line);
             let left = if due[0] >= 20 { 0 } else { 0xABCD_1234 };
             assert!(scratch.iter().all(|&word| word == left));
@@ -54,12 +46,12 @@ fn by_the_embedded_form() {
     let mut runs = 0;
     for program in programs() {
         for run in program.runs.iter().filter(|run| run.is_embedded()) {
-            let mut out = vec![0x5A; run.room];
-            let number = embedded(&program.file, run.budget, run.wanted, &mut out);
+            let mut out = vec![0x5A; run.case.room];
+            let number = embedded(&program.file, run.case.budget, run.case.wanted, &mut out);
             let lower = run.number("at").max(run.number("bytes")) as u64;
             assert_eq!(number, upper(run) << 32 | lower, "{}", program.name);
             let mut bytes = run.bytes(&program);
-            bytes.resize(run.room, 0x5A);
+            bytes.resize(run.case.room, 0x5A);
             assert!(out == bytes, "{}: {}", program.name, run.line);
             runs += 1;
         }

@@ -24,15 +24,7 @@ fn said(Call { case, .. }: &Call) -> Said {
     let mut out = vec![0x5A; case.room];
     let mut result = [7; 12];
     let packed = run(&case.file, case.budget, case.wanted, &mut embedded_out);
-    call(
-        &case.file,
-        case.limits,
-        case.budget,
-        case.wanted,
-        &mut scratch,
-        &mut out,
-        &mut result,
-    );
+    call(case, &mut scratch, &mut out, &mut result);
     Said {
         checked: check(&case.file),
         packed,

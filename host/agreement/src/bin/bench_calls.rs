@@ -7,10 +7,9 @@ use std::time::Instant;
 use agreement::calls::{told, Both, Call};
 use agreement::library;
 use second::assemble::file;
-use second::call::{Limits, Memory, Outcome};
+use second::call::{Case, Limits, Memory, Outcome};
 use second::cases::programs;
 use second::examples::*;
-use second::generate::Case;
 
 const LIMITS: Limits = Limits {
     cells: 4_000,
@@ -35,20 +34,15 @@ fn least(case: &Case) -> (f64, f64) {
     let mut out = vec![0; case.room];
     let mut result = [0; 12];
     let mut memory = Memory::default();
-    let (limits, budget, wanted) = (case.limits, case.budget, case.wanted);
     let mut least = (f64::INFINITY, f64::INFINITY);
     let mut calls = 1;
     for _ in 0..ROUNDS {
         let library = time(calls, || {
-            let file = black_box(&case.file);
-            let (scratch, out) = (&mut scratch, &mut out);
-            library::call(file, limits, budget, wanted, scratch, out, &mut result);
+            library::call(black_box(case), &mut scratch, &mut out, &mut result);
             black_box(&result);
         });
         let second = time(calls, || {
-            let file = black_box(&case.file);
-            let (scratch, out) = (&mut scratch, &mut out);
-            black_box(memory.call(file, limits, budget, wanted, scratch, out));
+            black_box(black_box(case).call(&mut memory, &mut scratch, &mut out));
         });
         least = (least.0.min(library), least.1.min(second));
         calls = (1 + (ROUND * 1e6 / library.min(second)) as usize).min(1_000);
@@ -86,14 +80,11 @@ fn main() {
         "program                units answers  library us  ns a unit  second us  library / second"
     );
     for (name, text, wanted) in programs {
-        let file = file(&text);
         let case = Case {
-            scratch_len: LIMITS.scratch(file.len()),
-            file,
-            limits: LIMITS,
             budget: 200_000,
             wanted,
             room: ROOM,
+            ..Case::new(&file(&text), LIMITS)
         };
         let outcome = match Both::default().agreed(&Call::new(case.clone())) {
             Ok(outcome) => outcome,
