@@ -12,10 +12,11 @@ all: append horn
 append: build/pegplanet
 	build/pegplanet < examples/append.rules | head -n 1
 
-# the house rules are the assembler's; the part comes out, and with 10 units a question there is none
+# the house rules are the assembler's; the part comes out, and where the machine is stopped there is none
 horn: build/assemble build/extract
 	build/assemble < examples/horn/rules.txt | cmp - examples/horn/house.rules
 	build/extract examples/horn/house.rules < examples/horn/score.txt
+	@echo "With 10 units a question the machine is stopped, and no part is written:"
 	! build/extract examples/horn/house.rules 10 < examples/horn/score.txt
 
 build/pegplanet: program/pegplanet.c include/pegplanet.h lib
