@@ -1,5 +1,5 @@
 //! The time of a whole call, by the library and by the second program, for
-//! several example programs.
+//! several example programs; and of case A in the embedded form.
 
 use std::hint::black_box;
 use std::time::Instant;
@@ -7,9 +7,9 @@ use std::time::Instant;
 use agreement::calls::{told, Both, Call};
 use agreement::library;
 use second::assemble::file;
-use second::call::{Limits, Memory, Outcome};
+use second::call::{Case, Limits, Memory, Outcome};
+use second::cases::programs;
 use second::examples::*;
-use second::generate::Case;
 
 const LIMITS: Limits = Limits {
     cells: 4_000,
@@ -34,20 +34,15 @@ fn least(case: &Case) -> (f64, f64) {
     let mut out = vec![0; case.room];
     let mut result = [0; 12];
     let mut memory = Memory::default();
-    let (limits, budget, wanted) = (case.limits, case.budget, case.wanted);
     let mut least = (f64::INFINITY, f64::INFINITY);
     let mut calls = 1;
     for _ in 0..ROUNDS {
         let library = time(calls, || {
-            let file = black_box(&case.file);
-            let (scratch, out) = (&mut scratch, &mut out);
-            library::call(file, limits, budget, wanted, scratch, out, &mut result);
+            library::call(black_box(case), &mut scratch, &mut out, &mut result);
             black_box(&result);
         });
         let second = time(calls, || {
-            let file = black_box(&case.file);
-            let (scratch, out) = (&mut scratch, &mut out);
-            black_box(memory.call(file, limits, budget, wanted, scratch, out));
+            black_box(black_box(case).call(&mut memory, &mut scratch, &mut out));
         });
         least = (least.0.min(library), least.1.min(second));
         calls = (1 + (ROUND * 1e6 / library.min(second)) as usize).min(1_000);
@@ -55,7 +50,23 @@ fn least(case: &Case) -> (f64, f64) {
     least
 }
 
+/// The least time of case A in the embedded form, in microseconds.
+fn embedded() -> f64 {
+    let file = &programs()[0].file;
+    let mut out = [0; 1_000];
+    let rounds = (0..ROUNDS).map(|_| {
+        time(1_000, || {
+            let packed = library::run(black_box(file), 1_000, 1_000, &mut out);
+            assert_eq!(black_box(packed), 20 << 32 | 45);
+        })
+    });
+    rounds.fold(f64::INFINITY, f64::min)
+}
+
 fn main() {
+    let call = embedded();
+    let second = 1e6 / call;
+    println!("pegplanet_run on case A: {call:.2} us a call, {second:.0} calls a second");
     // Each with the answers it has; the second looks for more without end.
     let programs = [
         ("naive reverse of 30", naive_reverse(30), 1),
@@ -69,14 +80,11 @@ fn main() {
         "program                units answers  library us  ns a unit  second us  library / second"
     );
     for (name, text, wanted) in programs {
-        let file = file(&text);
         let case = Case {
-            scratch_len: LIMITS.scratch(file.len()),
-            file,
-            limits: LIMITS,
             budget: 200_000,
             wanted,
             room: ROOM,
+            ..Case::new(&file(&text), LIMITS)
         };
         let outcome = match Both::default().agreed(&Call::new(case.clone())) {
             Ok(outcome) => outcome,
