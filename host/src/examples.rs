@@ -34,6 +34,25 @@ pub fn naive_reverse(length: usize) -> String {
     )
 }
 
+/// Naive reverse of so many times ten elements. A term nests to 32 levels, so
+/// the list comes from goals.
+pub fn long_reverse(tens: usize) -> String {
+    let rest = |i| {
+        if i == tens {
+            "[]".to_string()
+        } else {
+            format!("L{i}")
+        }
+    };
+    let goals: String = (0..tens)
+        .map(|i| format!("ten({},{}), ", rest(i), rest(i + 1)))
+        .collect();
+    format!(
+        "{APPEND} rev([],[]). rev([H|T],R) :- rev(T,S), app(S,[H],R).
+         ten([a,b,c,d,a,b,c,d,a,b|T],T). ?- {goals}rev(L0,R)."
+    )
+}
+
 /// All permutations of a list.
 pub fn permutations(length: usize) -> String {
     format!(

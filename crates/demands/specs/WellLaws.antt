@@ -85,6 +85,15 @@ module _ (fs : List ℕ) where
   GoodStore n empty = Unit {0}
   GoodStore n (bind x t s) = (x < n) × Good n t × GoodStore n s
 
+  -- the terms that cells were bound to, whichever cells these are
+  abbrev pub GoodBindings : ℕ → Store → Type 0
+  GoodBindings n empty = Unit {0}
+  GoodBindings n (bind x t s) = Good n t × GoodBindings n s
+
+  pub store-bindings-good : (n : ℕ) (s : Store) → GoodStore n s → GoodBindings n s
+  store-bindings-good n empty w = tt
+  store-bindings-good n (bind x t s) w = (w .1, store-bindings-good n s (w .2))
+
   abbrev pub GoodPairs : ℕ → List Pair → Type 0
   GoodPairs n [] = Unit {0}
   GoodPairs n (p ∷ ps) = Good n (p .goal-side) × Good n (p .head-side) × GoodPairs n ps
@@ -113,16 +122,27 @@ module _ (fs : List ℕ) where
       let T : Well fs Any (inst (value s) t) = well-inst (λ z. z < n) Any (value s) (λ z k. value-well n s (w .2) z) t (w .1) in
       well-inst Any Any (only x (inst (value s) t)) (λ z k. only-well x z (inst (value s) t) T) (value s y) (value-well n s (w .2) y)
 
+  -- the value of a cell is over the cells that bindings are over
+  pub value-good : (n : ℕ) (s : Store) → GoodBindings n s → (y : ℕ) → y < n → Good n (value s y)
+  unfolding value only
+  value-good n empty g y h = h
+  value-good n (bind x t s) g y h =
+      let T : Good n (inst (value s) t) = well-inst (λ z. z < n) (λ z. z < n) (value s) (value-good n s (g .1)) t (g .0) in
+      well-inst (λ z. z < n) (λ z. z < n) (only x (inst (value s) t)) (λ z k. if-by (Good n) (eqb z x) (λ p. T) (λ p. k)) (value s y) (value-good n s (g .1) y h)
+
   -- followed terms of a good store are good
   onward-good : (n x : ℕ) (t u : Term) → Good n t → Good n u → Good n (onward x t u)
   unfolding onward
   onward-good n x t (var y) g h = if-by (Good n) (eqb y x) (λ p. g) (λ p. h)
   onward-good n x t (app f ts) g h = h
 
-  pub follow-good : (n : ℕ) (s : Store) → GoodStore n s → (u : Term) → Good n u → Good n (follow s u)
+  pub followed-good : (n : ℕ) (s : Store) → GoodBindings n s → (u : Term) → Good n u → Good n (follow s u)
   unfolding follow
-  follow-good n empty w u g = g
-  follow-good n (bind x t s) w u g = onward-good n x (follow s t) (follow s u) (follow-good n s (w .2) t (w .1)) (follow-good n s (w .2) u g)
+  followed-good n empty w u g = g
+  followed-good n (bind x t s) w u g = onward-good n x (follow s t) (follow s u) (followed-good n s (w .1) t (w .0)) (followed-good n s (w .1) u g)
+
+  pub follow-good : (n : ℕ) (s : Store) → GoodStore n s → (u : Term) → Good n u → Good n (follow s u)
+  follow-good n s w u g = followed-good n s (store-bindings-good n s w) u g
 
   -- ---- pairs
   pub pairs-good : (n : ℕ) (ts us : Terms) → Goods n ts → Goods n us → GoodPairs n (pairs ts us)

@@ -27,9 +27,9 @@ use Rattle.answers.specs.Answering.{Answers}
 use Rattle.answers.specs.declared.Wrote.{Wrote}
 use Rattle.answers.specs.declared.Wrote.the-variants.{Bytes, Full, Crowded}
 use Rattle.machine.specs.declared.run.Written.{Written}
-use Rattle.machine.specs.Running.{spent, behind-of, going-on, over-of, ended-of, WritesBehind, written-behind, Lists, no-output, last-wanted, goes-back, full, crowded, Moves, try-late, pair-late, cut-late, tries-one, pairs-one, cuts-one, lists, is-over, RunsFrom, stops, onward, nothing-yet, Runs, runs}
+use Rattle.machine.specs.Running.{spent, behind-of, going-on, over-of, ended-of, WritesBehind, written-behind, Lists, no-output, last-wanted, goes-back, full, crowded, Moves, try-late, pair-late, cut-late, tries-one, pairs-one, cuts-one, lists, is-over, MovesPairs, too-late, last-pair, next-pair, TriesPairs, no-pairs, then-pairs, TriesHeads, head-late, last-head, next-head, Turns, one, heads, pairs, RunsFrom, stops, onward, nothing-yet, Runs, runs}
 
-pub spend-is : (m : Regs) (u : ℕ) → u ≡ plus (m .units) 1 → _≡_ {A = Regs} (record { cells = m .cells; trail = m .trail; steps = m .steps; choice = m .choice; work = m .work; next = m .next; units = u }) (spent m)
+pub spend-is : (m : Regs) (u : ℕ) → u ≡ plus (m .units) 1 → _≡_ {A = Regs} (record { cells = m .cells; trail = m .trail; steps = m .steps; choice = m .choice; work = m .work; fresh = m .fresh; next = m .next; units = u }) (spent m)
 unfolding spent
 spend-is m u e = rw e refl
 
@@ -47,7 +47,7 @@ module _ (d : Due) (m : Regs) where
   unfolding going-on
   over-stops e q = rw q refl
 
-  pub try-goes : (x : Trial) → d ≡ Try x m → true ≡ going-on d
+  pub try-goes : (x : Trial) → d ≡ Try m x → true ≡ going-on d
   unfolding going-on
   try-goes x q = rw q refl
 
@@ -69,7 +69,7 @@ module _ (d : Due) (m : Regs) where
     over-ends e q f = rw q f
 
     module _ (f : r ≡ over-of Budget m t) where
-      pub try-ends : (x : Trial) → d ≡ Try x m → r ≡ ended-of d t
+      pub try-ends : (x : Trial) → d ≡ Try m x → r ≡ ended-of d t
       unfolding ended-of
       try-ends x q = rw q f
 
@@ -85,32 +85,26 @@ module _ (d : Due) (m : Regs) where
       unfolding ended-of
       answer-ends q = rw q f
 
--- ---- one move
+-- ---- one turn
 module _ (file : List ℕ) (g : Given) (budget wanted : ℕ) (d : Due) (t : Written) (w o : List ℕ) (m : Regs) where
-  pub move-try-late : (x : Trial) → d ≡ Try x m → budget ≤ m .units → Moves file g budget wanted d t w o (Over Budget m) t w o
-  move-try-late x q h = rw q (try-late h)
+  pub turn-cut-late : d ≡ Cut m → budget ≤ m .units → Turns file g budget wanted d t w o (Over Budget m) t w o
+  turn-cut-late q h = rw q (one (cut-late h))
 
-  pub move-pair-late : d ≡ Pair m → budget ≤ m .units → Moves file g budget wanted d t w o (Over Budget m) t w o
-  move-pair-late q h = rw q (pair-late h)
+  pub turn-over : (e : End) → d ≡ Over e m → Turns file g budget wanted d t w o (Over e m) t w o
+  turn-over e q = rw q (one is-over)
 
-  pub move-cut-late : d ≡ Cut m → budget ≤ m .units → Moves file g budget wanted d t w o (Over Budget m) t w o
-  move-cut-late q h = rw q (cut-late h)
+  pub turn-list : (n : Due) (s : Written) (v p : List ℕ) → d ≡ Answer m → Lists file g wanted m t w o n s v p → Turns file g budget wanted d t w o n s v p
+  turn-list n s v p q l = rw q (one (lists l))
 
-  pub move-over : (e : End) → d ≡ Over e m → Moves file g budget wanted d t w o (Over e m) t w o
-  move-over e q = rw q is-over
+  module _ (n : Due) (v : List ℕ) where
+    pub turn-pairs : d ≡ Pair m → MovesPairs file g budget m w n v → Turns file g budget wanted d t w o n t v o
+    turn-pairs q l = rw q (pairs l)
 
-  pub move-list : (n : Due) (s : Written) (v p : List ℕ) → d ≡ Answer m → Lists file g wanted m t w o n s v p → Moves file g budget wanted d t w o n s v p
-  move-list n s v p q l = rw q (lists l)
+    pub turn-heads : (x : Trial) → d ≡ Try m x → TriesHeads file g budget m x w n v → Turns file g budget wanted d t w o n t v o
+    turn-heads x q l = rw q (heads l)
 
-  module _ (n : Due) (v : List ℕ) (s : Regs) (f : s ≡ spent m) (h : m .units < budget) where
-    pub move-try : (x : Trial) → d ≡ Try x m → TriesHead file g x s w n v → Moves file g budget wanted d t w o n t v o
-    move-try x q l = rw q (tries-one h (rw f at l))
-
-    pub move-pair-one : d ≡ Pair m → MovesPair file g s w n v → Moves file g budget wanted d t w o n t v o
-    move-pair-one q l = rw q (pairs-one h (rw f at l))
-
-    pub move-cut-one : d ≡ Cut m → MovesCut file (g .lay) s w n v → Moves file g budget wanted d t w o n t v o
-    move-cut-one q l = rw q (cuts-one h (rw f at l))
+    pub turn-cut : (s : Regs) → s ≡ spent m → m .units < budget → d ≡ Cut m → MovesCut file (g .lay) s w n v → Turns file g budget wanted d t w o n t v o
+    turn-cut s f h q l = rw q (one (cuts-one h (rw f at l)))
 
 -- ---- the rest of the output is lent
 rest-all : (xs : List ℕ) (n : ℕ) → n ≡ length xs → take n xs ≡ xs
@@ -146,7 +140,7 @@ module _ (file : List ℕ) (g : Given) (wanted : ℕ) (m : Regs) (t : Written) (
 -- ---- the run: each turn of the loop brings it nearer to its end
 -- the units left count twice, for an answer spends none
 unfoldable pub left : ℕ → Due → ℕ
-left budget (Try x m) = 2 * (budget - m .units) + 1
+left budget (Try m x) = 2 * (budget - m .units) + 1
 left budget (Pair m) = 2 * (budget - m .units) + 1
 left budget (Cut m) = 2 * (budget - m .units) + 1
 left budget (Answer m) = 2 * (budget - m .units) + 2
@@ -214,6 +208,62 @@ moves-left budget b e (cuts-one {m = m} h a) = let x = cuts-left budget a in let
 moves-left budget b e (lists a) = let x = lists-left budget a in omega arith
 moves-left budget b e is-over = absurd (false≢true e)
 
+-- the moves of heads
+pairs-fewer : {file : _} {g : Given} {m : Regs} {d : Due} {w v : List ℕ} (budget : ℕ) → budget < 2 ^ 32 → MovesPairs file g budget m w d v → left budget d ≤ 2 * (budget - m .units)
+unfolding left
+pairs-fewer budget b (too-late h) = omega arith
+pairs-fewer budget b (last-pair {m = m} h a) = let x = pairs-left budget a in let y = spent-less budget m b h in omega arith
+pairs-fewer budget b (next-pair {m = m} h a r) = let x = pairs-left budget a in let y = spent-less budget m b h in let z = pairs-fewer budget b r in omega arith
+
+pub head-fewer : {file : _} {g : Given} {x : Trial} {m : Regs} {d : Due} {w v : List ℕ} (budget : ℕ) → budget < 2 ^ 32 → TriesPairs file g budget x m w d v → left budget d ≤ 2 * (budget - m .units) + 2
+unfolding left
+head-fewer budget b (no-pairs a) = tries-left budget a
+head-fewer budget b (then-pairs a r) = let x = tries-left budget a in let y = pairs-fewer budget b r in omega arith
+
+heads-fewer : {file : _} {g : Given} {x : Trial} {m : Regs} {d : Due} {w v : List ℕ} (budget : ℕ) → budget < 2 ^ 32 → TriesHeads file g budget m x w d v → left budget d ≤ 2 * (budget - m .units)
+unfolding left
+heads-fewer budget b (head-late h) = omega arith
+heads-fewer budget b (last-head {m = m} h a) = let x = head-fewer budget b a in let y = spent-less budget m b h in omega arith
+heads-fewer budget b (next-head {m = m} h a r) = let x = head-fewer budget b a in let y = spent-less budget m b h in let z = heads-fewer budget b r in omega arith
+
+unfoldable pub units-left : ℕ → Regs → ℕ
+units-left budget m = budget - m .units
+
+-- a head that follows another has fewer units left
+pub next-fewer : {file : _} {g : Given} {x y : Trial} {n : Regs} {w v : List ℕ} (m : Regs) (budget : ℕ) → budget < 2 ^ 32 → m .units < budget → TriesPairs file g budget x (spent m) w (Try n y) v → units-left budget n < units-left budget m
+unfolding left units-left
+next-fewer m budget b h a = let x = head-fewer budget b a in let y = spent-less budget m b h in omega arith
+
+turns-left : {file : _} {g : Given} {wanted : ℕ} {d n : Due} {t s : Written} {w o v p : List ℕ} (budget : ℕ) → budget < 2 ^ 32 → going-on d ≡ true → Turns file g budget wanted d t w o n s v p → left budget n < left budget d
+unfolding left
+turns-left budget b e (one a) = moves-left budget b e a
+turns-left budget b e (heads a) = let x = heads-fewer budget b a in omega arith
+turns-left budget b e (pairs a) = let x = pairs-fewer budget b a in omega arith
+
+-- a run from behind the moves of heads is a run from their first move
+module _ {file : List ℕ} {g : Given} {budget wanted : ℕ} {t : Written} {o u q : List ℕ} {r : Outcome} where
+  run-pairs : {m : Regs} {d : Due} {w v : List ℕ} → MovesPairs file g budget m w d v → RunsFrom file g budget wanted d t v o r u q → RunsFrom file g budget wanted (Pair m) t w o r u q
+  unfolding going-on
+  run-pairs (too-late h) b = onward refl (pair-late h) b
+  run-pairs (last-pair h a) b = onward refl (pairs-one h a) b
+  run-pairs (next-pair h a c) b = onward refl (pairs-one h a) (run-pairs c b)
+
+  run-head : {x : Trial} {m : Regs} {d : Due} {w v : List ℕ} → m .units < budget → TriesPairs file g budget x (spent m) w d v → RunsFrom file g budget wanted d t v o r u q → RunsFrom file g budget wanted (Try m x) t w o r u q
+  unfolding going-on
+  run-head h (no-pairs a) b = onward refl (tries-one h a) b
+  run-head h (then-pairs a c) b = onward refl (tries-one h a) (run-pairs c b)
+
+  run-heads : {x : Trial} {m : Regs} {d : Due} {w v : List ℕ} → TriesHeads file g budget m x w d v → RunsFrom file g budget wanted d t v o r u q → RunsFrom file g budget wanted (Try m x) t w o r u q
+  unfolding going-on
+  run-heads (head-late h) b = onward refl (try-late h) b
+  run-heads (last-head h a) b = run-head h a b
+  run-heads (next-head h a c) b = run-head h a (run-heads c b)
+
+run-turn : {file : List ℕ} {g : Given} {budget wanted : ℕ} {d n : Due} {t s : Written} {w o v p u q : List ℕ} {r : Outcome} → going-on d ≡ true → Turns file g budget wanted d t w o n s v p → RunsFrom file g budget wanted n s v p r u q → RunsFrom file g budget wanted d t w o r u q
+run-turn e (one a) b = onward e a b
+run-turn e (heads a) b = run-heads a b
+run-turn e (pairs a) b = run-pairs a b
+
 -- what is still to be run comes to the same
 pub record Running (file : List ℕ) (g : Given) (budget wanted : ℕ) (d₀ : Due) (t₀ : Written) (w₀ o₀ : List ℕ) (d : Due) (t : Written) (w o : List ℕ) : Type 0 where
   pub rest : (r : Outcome) (v p : List ℕ) → RunsFrom file g budget wanted d t w o r v p → RunsFrom file g budget wanted d₀ t₀ w₀ o₀ r v p
@@ -224,12 +274,12 @@ pub running-start : (file : List ℕ) (g : Given) (budget wanted : ℕ) (d : Due
 running-start file g budget wanted d t w o = record { rest = λ r v p a. a; words-long = refl; bytes-long = refl }
 
 module _ (file : List ℕ) (g : Given) (budget wanted : ℕ) (d₀ : Due) (t₀ : Written) (w₀ o₀ : List ℕ) (d : Due) (t : Written) (w o : List ℕ) (i : Running file g budget wanted d₀ t₀ w₀ o₀ d t w o) (x : Bool) (e : x ≡ going-on d) where
-  module _ (f : x ≡ true) (n : Due) (s : Written) (v p : List ℕ) (a : Moves file g budget wanted d t w o n s v p) where
+  module _ (f : x ≡ true) (n : Due) (s : Written) (v p : List ℕ) (a : Turns file g budget wanted d t w o n s v p) where
     pub running-again : length v ≡ length w → length p ≡ length o → Running file g budget wanted d₀ t₀ w₀ o₀ n s v p
-    running-again k l = record { rest = λ r u q b. i .rest r u q (onward (sym e ∙ f) a b); words-long = k ∙ i .words-long; bytes-long = l ∙ i .bytes-long }
+    running-again k l = record { rest = λ r u q b. i .rest r u q (run-turn (sym e ∙ f) a b); words-long = k ∙ i .words-long; bytes-long = l ∙ i .bytes-long }
 
     pub running-less : budget < 2 ^ 32 → left budget n < left budget d
-    running-less b = moves-left budget b (sym e ∙ f) a
+    running-less b = turns-left budget b (sym e ∙ f) a
 
   pub running-end : x ≡ false → (r : Outcome) → r ≡ ended-of d t → (w₁ : List ℕ) → Starts file g wanted w₁ d₀ w₀ → t₀ ≡ nothing-yet → Runs file g budget wanted w₁ o₀ r w o
   running-end f r q w₁ b z = let c = i .rest r w o (rw q (stops (sym e ∙ f))) in runs b (rw z at c)

@@ -1,3 +1,4 @@
 pub mod Laws
+pub mod HeadLaws
 pub mod RunLaws
 pub mod CallLaws

@@ -256,17 +256,17 @@ module _ (X : Setting) (wanted : ℕ) (o₀ : List ℕ) (small : length o₀ < 2
         → WrittenIs t d o → length (d .listed) < wanted → left + d .units ≡ budget → Moved r s v p (run R (X .limits) wanted room left st)
     unfolding move spent spend going-on given-of
     moves-come g (try-late h) left _ d (is-try t u) hd i few e = is-late left _ d e u h i
-    moves-come g (pair-late h) left _ d (is-pair a u) hd i few e = is-late left _ d e u h i
+    moves-come g (pair-late h) left _ d (is-pair a f u) hd i few e = is-late left _ d e u h i
     moves-come g (cut-late h) left _ d (is-cut a u) hd i few e = is-late left _ d e u h i
     moves-come g (cut-late h) left _ d (is-idle a u) hd i few e = is-late left _ d e u h i
     moves-come g (tries-one {x = x} {m = m} {w = w} h b) left _ d (is-try {k = k} {ks = ks} {g = c} {n = n} {cs = cs} t u) hd i few e =
         let z = spent-later m h in
         goes-on-by left (trying k (choice ks c n) cs) d m e u h hd i few
         (tries-head X wf wanted room w x (later m (plus (m .units) 1)) k ks c n cs (later-try X w m (plus (m .units) 1) z t) (hd .choices .0) (sound-all cs (hd .choices .1) (t .run .choices) (t .run .holds .few)) (spend d) b (omega arith))
-    moves-come g (pairs-one {m = m} {w = w} h b) left _ d (is-pair {p = q} {ps = ps} {n = n} {cs = cs} a u) hd i few e =
+    moves-come g (pairs-one {m = m} {w = w} h b) left _ d (is-pair {p = q} {ps = ps} {n = n} {cs = cs} a f u) hd i few e =
         let z = spent-later m h in
         goes-on-by left (taking q ps n cs) d m e u h hd i few
-        (moves-pair X wanted room w (later m (plus (m .units) 1)) q ps n cs (spend d) (later-at X w m (plus (m .units) 1) z a) (later-marks X w m (plus (m .units) 1) z (a .run)) (hd .pairs) (fair-of w m n cs (hd .good) (hd .choices) (a .run)) (omega arith) b)
+        (moves-pair X wanted room w (later m (plus (m .units) 1)) q ps n cs (spend d) (later-at X w m (plus (m .units) 1) z a) (later-marks X w m (plus (m .units) 1) z (a .run)) (hd .pairs) f (fair-of w m n cs (hd .good) (hd .choices) (a .run)) (omega arith) b)
     moves-come g (cuts-one {m = m} {w = w} h b) left _ d (is-cut {h = k} {n = n} {cs = cs} a u) hd i few e =
         let z = spent-later m h in
         goes-on-by left (cutting k n cs) d m e u h hd i few
@@ -319,7 +319,7 @@ module _ (X : Setting) (wanted : ℕ) (o₀ : List ℕ) (small : length o₀ < 2
         → WrittenIs t d o → (going-on e ≡ true → length (d .listed) < wanted) → left + d .units ≡ budget → Came r q (run R (X .limits) wanted room left st)
     unfolding going-on ended-of
     runs-come (stops-here g) left _ d (is-try a u) hd i few e = absurd (false≢true (sym g))
-    runs-come (stops-here g) left _ d (is-pair a u) hd i few e = absurd (false≢true (sym g))
+    runs-come (stops-here g) left _ d (is-pair a f u) hd i few e = absurd (false≢true (sym g))
     runs-come (stops-here g) left _ d (is-cut a u) hd i few e = absurd (false≢true (sym g))
     runs-come (stops-here g) left _ d (is-idle a u) hd i few e = absurd (false≢true (sym g))
     runs-come (stops-here g) left _ d (is-answer n cs a f z u) hd i few e = absurd (false≢true (sym g))

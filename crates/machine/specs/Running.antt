@@ -24,14 +24,14 @@ use Rattle.answers.specs.declared.Wrote.the-variants.{Bytes, Full, Crowded}
 use Rattle.machine.specs.declared.run.Written.{Written}
 
 unfoldable pub spent : Regs → Regs
-spent m = record { cells = m .cells; trail = m .trail; steps = m .steps; choice = m .choice; work = m .work; next = m .next; units = plus (m .units) 1 }
+spent m = record { cells = m .cells; trail = m .trail; steps = m .steps; choice = m .choice; work = m .work; fresh = m .fresh; next = m .next; units = plus (m .units) 1 }
 
 unfoldable pub behind-of : Written → ℕ → Written
 behind-of t size = record { answers = plus (t .answers) 1; bytes = ahead (t .bytes) size }
 
 unfoldable pub going-on : Due → Bool
 going-on (Over e m) = false
-going-on (Try x m) = true
+going-on (Try m x) = true
 going-on (Pair m) = true
 going-on (Cut m) = true
 going-on (Answer m) = true
@@ -41,7 +41,7 @@ over-of e m t = Ended e (record { answers = t .answers; units = m .units; bytes 
 
 unfoldable pub ended-of : Due → Written → Outcome
 ended-of (Over e m) t = over-of e m t
-ended-of (Try x m) t = over-of Budget m t
+ended-of (Try m x) t = over-of Budget m t
 ended-of (Pair m) t = over-of Budget m t
 ended-of (Cut m) t = over-of Budget m t
 ended-of (Answer m) t = over-of Budget m t
@@ -63,14 +63,37 @@ pub data Lists (file : List ℕ) (g : Given) (wanted : ℕ) (m : Regs) (t : Writ
 
 -- what is due is done: a move where a unit is left for it, or an answer
 pub data Moves (file : List ℕ) (g : Given) (budget wanted : ℕ) : Due → Written → List ℕ → List ℕ → Due → Written → List ℕ → List ℕ → Type 0 where
-  try-late : {x : Trial} {m : Regs} {t : Written} {w o : List ℕ} → budget ≤ m .units → Moves file g budget wanted (Try x m) t w o (Over Budget m) t w o
+  try-late : {x : Trial} {m : Regs} {t : Written} {w o : List ℕ} → budget ≤ m .units → Moves file g budget wanted (Try m x) t w o (Over Budget m) t w o
   pair-late : {m : Regs} {t : Written} {w o : List ℕ} → budget ≤ m .units → Moves file g budget wanted (Pair m) t w o (Over Budget m) t w o
   cut-late : {m : Regs} {t : Written} {w o : List ℕ} → budget ≤ m .units → Moves file g budget wanted (Cut m) t w o (Over Budget m) t w o
-  tries-one : {x : Trial} {m : Regs} {t : Written} {d : Due} {w o v : List ℕ} → m .units < budget → TriesHead file g x (spent m) w d v → Moves file g budget wanted (Try x m) t w o d t v o
+  tries-one : {x : Trial} {m : Regs} {t : Written} {d : Due} {w o v : List ℕ} → m .units < budget → TriesHead file g x (spent m) w d v → Moves file g budget wanted (Try m x) t w o d t v o
   pairs-one : {m : Regs} {t : Written} {d : Due} {w o v : List ℕ} → m .units < budget → MovesPair file g (spent m) w d v → Moves file g budget wanted (Pair m) t w o d t v o
   cuts-one : {m : Regs} {t : Written} {d : Due} {w o v : List ℕ} → m .units < budget → MovesCut file (g .lay) (spent m) w d v → Moves file g budget wanted (Cut m) t w o d t v o
   lists : {m : Regs} {t s : Written} {d : Due} {w o v p : List ℕ} → Lists file g wanted m t w o d s v p → Moves file g budget wanted (Answer m) t w o d s v p
   is-over : {e : End} {m : Regs} {t : Written} {w o : List ℕ} → Moves file g budget wanted (Over e m) t w o (Over e m) t w o
+
+-- the pairs of a head, each for a unit, up to the move that comes to something else
+pub data MovesPairs (file : List ℕ) (g : Given) (budget : ℕ) : Regs → List ℕ → Due → List ℕ → Type 0 where
+  too-late : {m : Regs} {w : List ℕ} → budget ≤ m .units → MovesPairs file g budget m w (Over Budget m) w
+  last-pair : {m : Regs} {d : Due} {w v : List ℕ} → m .units < budget → MovesPair file g (spent m) w d v → MovesPairs file g budget m w d v
+  next-pair : {m n : Regs} {d : Due} {w v u : List ℕ} → m .units < budget → MovesPair file g (spent m) w (Pair n) v → MovesPairs file g budget n v d u → MovesPairs file g budget m w d u
+
+-- a head, and then its pairs
+pub data TriesPairs (file : List ℕ) (g : Given) (budget : ℕ) (x : Trial) (m : Regs) (w : List ℕ) : Due → List ℕ → Type 0 where
+  no-pairs : {d : Due} {v : List ℕ} → TriesHead file g x m w d v → TriesPairs file g budget x m w d v
+  then-pairs : {n : Regs} {d : Due} {v u : List ℕ} → TriesHead file g x m w (Pair n) v → MovesPairs file g budget n v d u → TriesPairs file g budget x m w d u
+
+-- heads, as long as one is due
+pub data TriesHeads (file : List ℕ) (g : Given) (budget : ℕ) : Regs → Trial → List ℕ → Due → List ℕ → Type 0 where
+  head-late : {m : Regs} {x : Trial} {w : List ℕ} → budget ≤ m .units → TriesHeads file g budget m x w (Over Budget m) w
+  last-head : {m : Regs} {x : Trial} {d : Due} {w v : List ℕ} → m .units < budget → TriesPairs file g budget x (spent m) w d v → TriesHeads file g budget m x w d v
+  next-head : {m n : Regs} {x y : Trial} {d : Due} {w v u : List ℕ} → m .units < budget → TriesPairs file g budget x (spent m) w (Try n y) v → TriesHeads file g budget n y v d u → TriesHeads file g budget m x w d u
+
+-- one move, or all moves of heads that follow each other
+pub data Turns (file : List ℕ) (g : Given) (budget wanted : ℕ) : Due → Written → List ℕ → List ℕ → Due → Written → List ℕ → List ℕ → Type 0 where
+  one : {d n : Due} {t s : Written} {w o v p : List ℕ} → Moves file g budget wanted d t w o n s v p → Turns file g budget wanted d t w o n s v p
+  heads : {x : Trial} {m : Regs} {d : Due} {t : Written} {w o v : List ℕ} → TriesHeads file g budget m x w d v → Turns file g budget wanted (Try m x) t w o d t v o
+  pairs : {m : Regs} {d : Due} {t : Written} {w o v : List ℕ} → MovesPairs file g budget m w d v → Turns file g budget wanted (Pair m) t w o d t v o
 
 -- from what is due to the end
 pub data RunsFrom (file : List ℕ) (g : Given) (budget wanted : ℕ) : Due → Written → List ℕ → List ℕ → Outcome → List ℕ → List ℕ → Type 0 where

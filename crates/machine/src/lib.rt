@@ -1,4 +1,5 @@
 // The machine: a run from its start to its end, and the whole call around it.
+mod heads;
 mod run;
 
 use cells::Layout;

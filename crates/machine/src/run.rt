@@ -1,4 +1,7 @@
 // A run: from what is due to what is due next, until it is over.
+use crate::heads::move_pairs;
+use crate::heads::spend;
+use crate::heads::try_heads;
 use answers::Wrote;
 use answers::answer;
 use meaning::End;
@@ -9,16 +12,14 @@ use search::Given;
 use search::Regs;
 use search::back;
 use search::move_cut;
-use search::move_pair;
 use search::start;
-use search::try_head;
 use words::add;
 use words::byte_after;
 use words::on;
 ghost use mathlib.Core.Path.{_≡_};
 ghost use Prim.Native.Nat.{_≤_};
 ghost use lib.ListN.{length};
-ghost use Rattle.machine.specs.Running.{spent, going-on, over-of, ended-of, behind-of, WritesBehind, Lists, Moves, Runs};
+ghost use Rattle.machine.specs.Running.{going-on, over-of, ended-of, behind-of, WritesBehind, Lists, Turns, Runs};
 
 // What has been written: answers, and bytes of output.
 pub struct Written {
@@ -30,16 +31,6 @@ pub struct Written {
 pub struct Turn {
     pub due: Due,
     pub written: Written,
-}
-
-// A unit is spent.
-fn spend(m: Regs) -> Regs
-    ensures { λ r. ⌜ r ≡ spent m ⌝ }
-{
-    Regs {
-        units: add(m.units, 1),
-        ..m
-    }
 }
 
 // An answer is behind what has been written.
@@ -116,8 +107,8 @@ fn list(
     }
 }
 
-// The move that is due, one unit being left for it, or the answer.
-fn one_move(
+// What is due is done: heads and their pairs, a cut, or an answer.
+fn one_turn(
     file: &[u8],
     w: &mut [u32],
     out: &mut [u8],
@@ -127,33 +118,17 @@ fn one_move(
     d: Due,
     t: Written,
 ) -> Turn
-    ensures { λ r. ⌜ Moves (now (file .entry)) g budget wanted d t (now (w .entry)) (now (out .entry)) (r .due) (r .written) (now (w .exit)) (now (out .exit)) ⌝ }
+    ensures { λ r. ⌜ Turns (now (file .entry)) g budget wanted d t (now (w .entry)) (now (out .entry)) (r .due) (r .written) (now (w .exit)) (now (out .exit)) ⌝ }
 {
     match d {
-        Due::Try(x, m) => {
-            if budget <= m.units {
-                return Turn {
-                    due: Due::Over(End::Budget, m),
-                    written: t,
-                };
-            }
-            Turn {
-                due: try_head(file, w, g, x, spend(m)),
-                written: t,
-            }
-        }
-        Due::Pair(m) => {
-            if budget <= m.units {
-                return Turn {
-                    due: Due::Over(End::Budget, m),
-                    written: t,
-                };
-            }
-            Turn {
-                due: move_pair(file, w, g, spend(m)),
-                written: t,
-            }
-        }
+        Due::Try(m, x) => Turn {
+            due: try_heads(file, w, g, budget, m, x),
+            written: t,
+        },
+        Due::Pair(m) => Turn {
+            due: move_pairs(file, w, g, budget, m),
+            written: t,
+        },
         Due::Cut(m) => {
             if budget <= m.units {
                 return Turn {
@@ -205,7 +180,7 @@ fn ended(d: Due, t: Written) -> Outcome
 {
     match d {
         Due::Over(e, m) => over(e, m, t),
-        Due::Try(_, m) => over(End::Budget, m, t),
+        Due::Try(m, _) => over(End::Budget, m, t),
         Due::Pair(m) => over(End::Budget, m, t),
         Due::Cut(m) => over(End::Budget, m, t),
         Due::Answer(m) => over(End::Budget, m, t),
@@ -229,7 +204,7 @@ pub fn run(
         bytes: 0,
     };
     while going(d) {
-        let n = one_move(file, w, out, g, budget, wanted, d, t);
+        let n = one_turn(file, w, out, g, budget, wanted, d, t);
         d = n.due;
         t = n.written;
     }

@@ -1,10 +1,11 @@
 -- What each return and each turn of a loop of matching says.
 -- Assumes nothing.
-use Prim.Native.Nat.{ℕ, zero, suc, _+_, _-_, _*_, _%_, _≤_, _<_}
+use Prim.Native.Nat.{ℕ, zero, suc, _+_, _-_, _*_, _%_, _^_, _≤_, _<_}
 use mathlib.Core.Path.{_≡_, refl, sym, ap, _∙_}
 use mathlib.Core.Bool.{Bool, true, false}
 use mathlib.Core.List.{List}
 use native.Mathlib.Omega.{arith}
+use native.Mathlib.Nat.{mod-eq-of-lt}
 use lib.ListN.{length, getD, set, length-set}
 use Rattle.meaning.specs.Reading.{byte}
 use Rattle.meaning.specs.declared.Place.{Place}
@@ -15,10 +16,12 @@ use Rattle.cells.specs.declared.Held.{Held}
 use Rattle.cells.specs.declared.Found.{Found}
 use Rattle.cells.specs.declared.Found.the-variants.{Unbound, Function}
 use Rattle.cells.specs.declared.Layout.{Layout}
-use Rattle.matching.specs.Matching.{put-four, held-at, place-after, word-of-place, pushed, past-kind, BindChecked, is-inside, binds, Functions, unequal, crowded, equal, front-of, Compares, one-variable, head-variable, head-free, goal-free, both-applied, TakesPair, no-pair, front}
+use Rattle.matching.specs.Matching.{put-four, held-at, place-after, word-of-place, pushed, past-kind, bound-to, one-bound, BindChecked, is-inside, binds, BindHead, unmentioned, mentioned, Functions, unequal, crowded, equal, front-of, Compares, one-variable, head-variable, head-free, goal-free, both-applied, TakesPair, no-pair, front, MatchesPairs, late, differed, crowded-out, matched-all, next-pair, came-out}
 use Rattle.matching.specs.declared.Pairing.{Pairing}
 use Rattle.matching.specs.declared.Pairing.the-variants.{Same, Differ, Over}
 use Rattle.matching.specs.declared.Front.{Front}
+use Rattle.matching.specs.declared.Came.the-variants.{Matched, Differed, Crowded, Late}
+use Rattle.matching.specs.declared.Matched.{Matched as Matched·pairs}
 
 pub put-four-is : (w₀ w₁ w₂ w₃ w₄ : List ℕ) (at i j k a b c d : ℕ) → w₁ ≡ set w₀ at a → i ≡ ahead at 1 → w₂ ≡ set w₁ i b → j ≡ ahead at 2 → w₃ ≡ set w₂ j c → k ≡ ahead at 3 → w₄ ≡ set w₃ k d → w₄ ≡ put-four w₀ at a b c d
 unfolding put-four
@@ -75,26 +78,42 @@ module _ (n work : ℕ) (lay : Layout) (g h : Held) (w₀ : List ℕ) (left : �
   push-again k v p′ q′ z e f a b = record { rest = push-rest k v p′ q′ z e f a b; few = let m = i .few in omega arith; as-long = ap length f ∙ put-four-length w _ _ _ _ _ ∙ i .as-long }
 
 -- ---- binding
-module _ (file : List ℕ) (lay : Layout) (stamp trail work : ℕ) (x : CellNumber) (h : Held) (w v : List ℕ) (b : Bool) (d : Inside file lay stamp trail (x .0) h w b v) where
-  pub bind-inside : b ≡ true → BindChecked file lay stamp trail work x h w Differ v
-  bind-inside e = is-inside (rw e at d)
+pub bound-is : (lay : Layout) (trail : ℕ) (x : CellNumber) (h : Held) (w v : List ℕ) → v ≡ set (set w (lay .cells + x .0) (word-of h)) (lay .trail + trail) (x .0) → v ≡ bound-to lay trail x h w
+unfolding bound-to
+bound-is lay trail x h w v e = e
 
-  pub bind-binds : (u : List ℕ) (t : ℕ) → b ≡ false → u ≡ set (set v (lay .cells + x .0) (word-of h)) (lay .trail + trail) (x .0) → t ≡ plus trail 1 → BindChecked file lay stamp trail work x h w (Same t work) u
-  bind-binds u t e f g = rw (f, g) (binds (rw e at d))
+pub one-is : (trail work fresh t : ℕ) → t ≡ plus trail 1 → Same t work fresh ≡ one-bound trail work fresh
+unfolding one-bound
+one-is trail work fresh t e = rw e refl
+
+module _ (file : List ℕ) (lay : Layout) (stamp trail work fresh : ℕ) (x : CellNumber) (h : Held) (w : List ℕ) where
+  module _ (v : List ℕ) (b : Bool) (d : Inside file lay stamp trail (x .0) h w b v) where
+    pub bind-inside : b ≡ true → BindChecked file lay stamp trail work fresh x h w Differ v
+    bind-inside e = is-inside (rw e at d)
+
+    pub bind-binds : (u : List ℕ) (r : Pairing) → b ≡ false → r ≡ one-bound trail work fresh → u ≡ bound-to lay trail x h v → BindChecked file lay stamp trail work fresh x h w r u
+    bind-binds u r e f g = rw (f, g) (binds (rw e at d))
+
+  module _ (r : Pairing) (v : List ℕ) where
+    pub head-unmentioned : fresh ≤ x .0 → r ≡ one-bound trail work fresh → v ≡ bound-to lay trail x h w → BindHead file lay stamp trail work fresh x h w r v
+    head-unmentioned l e f = rw (e, f) (unmentioned l)
+
+    pub head-mentioned : x .0 < fresh → BindChecked file lay stamp trail work fresh x h w r v → BindHead file lay stamp trail work fresh x h w r v
+    head-mentioned l b = mentioned l b
 
 -- ---- functions
-module _ (file : List ℕ) (lay : Layout) (limit trail work f g : ℕ) (s t : Held) (w : List ℕ) where
-  pub functions-differ : (f ≡ g → ⊥) → Functions file lay limit trail work f g s t w Differ w
+module _ (file : List ℕ) (lay : Layout) (limit trail work fresh f g : ℕ) (s t : Held) (w : List ℕ) where
+  pub functions-differ : (f ≡ g → ⊥) → Functions file lay limit trail work fresh f g s t w Differ w
   functions-differ n = unequal n
 
   module _ (n longer : ℕ) (e : f ≡ g) (a : n ≡ byte file (2 * f + 1)) (b : longer ≡ plus work n) where
     same-length : longer ≡ plus work (byte file (2 * f + 1))
     same-length = b ∙ ap (plus work) a
 
-    pub functions-over : limit < longer → Functions file lay limit trail work f g s t w Over w
+    pub functions-over : limit < longer → Functions file lay limit trail work fresh f g s t w Over w
     functions-over h = crowded e (rw same-length at h)
 
-    pub functions-push : (x y : Held) (v : List ℕ) → longer ≤ limit → x ≡ past-kind s 3 → y ≡ past-kind t 3 → v ≡ pushed n work lay x y w → Functions file lay limit trail work f g s t w (Same trail longer) v
+    pub functions-push : (x y : Held) (v : List ℕ) → longer ≤ limit → x ≡ past-kind s 3 → y ≡ past-kind t 3 → v ≡ pushed n work lay x y w → Functions file lay limit trail work fresh f g s t w (Same trail longer fresh) v
     functions-push x y v h p q r = rw (same-length, r, p, q, a) (equal e (rw same-length at h))
 
 -- ---- the front pair
@@ -102,25 +121,57 @@ pub front-read : (file w : List ℕ) (lay : Layout) (trail i : ℕ) (a b : Held)
 unfolding front-of
 front-read file w lay trail i a b g h p q r s = rw (q, p, s, r) refl
 
-module _ (file : List ℕ) (lay : Layout) (limit stamp trail work : ℕ) (g h : Found) (w : List ℕ) where
-  pub compare-one : (x y : CellNumber) (s t : Held) → g ≡ Unbound x s → h ≡ Unbound y t → x .0 ≡ y .0 → Compares file lay limit stamp trail work g h w (Same trail work) w
+module _ (file : List ℕ) (lay : Layout) (limit stamp cells trail work fresh : ℕ) (g h : Found) (w : List ℕ) where
+  pub compare-one : (x y : CellNumber) (s t : Held) → g ≡ Unbound x s → h ≡ Unbound y t → x .0 ≡ y .0 → Compares file lay limit stamp cells trail work fresh g h w (Same trail work fresh) w
   compare-one x y s t a b e = one-variable a b e
 
   module _ (r : Pairing) (v : List ℕ) where
-    pub compare-head : (x y : CellNumber) (s t : Held) → g ≡ Unbound x s → h ≡ Unbound y t → (x .0 ≡ y .0 → ⊥) → BindChecked file lay stamp trail work y s w r v → Compares file lay limit stamp trail work g h w r v
-    compare-head x y s t a b e d = head-variable a b e d
+    pub compare-head : (x y : CellNumber) (s t : Held) → g ≡ Unbound x s → h ≡ Unbound y t → (x .0 ≡ y .0 → ⊥) → r ≡ one-bound trail work fresh → v ≡ bound-to lay trail y s w → Compares file lay limit stamp cells trail work fresh g h w r v
+    compare-head x y s t a b e c d = rw (c, d) (head-variable a b e)
 
-    pub compare-head-free : (f : ℕ) (y : CellNumber) (s t : Held) → g ≡ Function f s → h ≡ Unbound y t → BindChecked file lay stamp trail work y s w r v → Compares file lay limit stamp trail work g h w r v
+    pub compare-head-free : (f : ℕ) (y : CellNumber) (s t : Held) → g ≡ Function f s → h ≡ Unbound y t → BindHead file lay stamp trail work fresh y s w r v → Compares file lay limit stamp cells trail work fresh g h w r v
     compare-head-free f y s t a b d = head-free a b d
 
-    pub compare-goal-free : (e : ℕ) (x : CellNumber) (s t : Held) → g ≡ Unbound x s → h ≡ Function e t → BindChecked file lay stamp trail work x t w r v → Compares file lay limit stamp trail work g h w r v
+    pub compare-goal-free : (e : ℕ) (x : CellNumber) (s t : Held) → g ≡ Unbound x s → h ≡ Function e t → BindChecked file lay stamp trail work cells x t w r v → Compares file lay limit stamp cells trail work fresh g h w r v
     compare-goal-free e x s t a b d = goal-free a b d
 
-    pub compare-both : (e f : ℕ) (s t : Held) → g ≡ Function f s → h ≡ Function e t → Functions file lay limit trail work f e s t w r v → Compares file lay limit stamp trail work g h w r v
+    pub compare-both : (e f : ℕ) (s t : Held) → g ≡ Function f s → h ≡ Function e t → Functions file lay limit trail work fresh f e s t w r v → Compares file lay limit stamp cells trail work fresh g h w r v
     compare-both e f s t a b d = both-applied a b d
 
-pub take-none : (file : List ℕ) (lay : Layout) (limit stamp trail work : ℕ) (w : List ℕ) → work ≡ 0 → TakesPair file lay limit stamp trail work w Differ w
-take-none file lay limit stamp trail work w e = no-pair e
+module _ (file : List ℕ) (lay : Layout) (limit stamp cells trail work fresh : ℕ) (w : List ℕ) where
+  pub take-none : work ≡ 0 → TakesPair file lay limit stamp cells trail work fresh w Differ w
+  take-none e = no-pair e
 
-pub take-front : (file : List ℕ) (lay : Layout) (limit stamp trail work : ℕ) (w v : List ℕ) (k : Front) (r : Pairing) → (work ≡ 0 → ⊥) → k ≡ front-of file w lay trail (work - 1) → Compares file lay limit stamp trail (work - 1) (k .goal) (k .head) w r v → TakesPair file lay limit stamp trail work w r v
-take-front file lay limit stamp trail work w v k r n e d = front n e d
+  pub take-front : (v : List ℕ) (k : Front) (r : Pairing) → (work ≡ 0 → ⊥) → k ≡ front-of file w lay trail (work - 1) → Compares file lay limit stamp cells trail (work - 1) fresh (k .goal) (k .head) w r v → TakesPair file lay limit stamp cells trail work fresh w r v
+  take-front v k r n e d = front n e d
+
+-- ---- the pairs of a head: what is left to match comes to the same
+pub record Matching (file : List ℕ) (lay : Layout) (limit budget cells trail₀ work₀ fresh₀ units₀ : ℕ) (w₀ : List ℕ) (trail work fresh units : ℕ) (w : List ℕ) : Type 0 where
+  pub rest : (r : Matched·pairs) (u : List ℕ) → MatchesPairs file lay limit budget cells trail work fresh units w r u → MatchesPairs file lay limit budget cells trail₀ work₀ fresh₀ units₀ w₀ r u
+  pub as-long : length w ≡ length w₀
+
+pub match-start : (file : List ℕ) (lay : Layout) (limit budget cells trail work fresh units : ℕ) (w : List ℕ) → Matching file lay limit budget cells trail work fresh units w trail work fresh units w
+match-start file lay limit budget cells trail work fresh units w = record { rest = λ d u a. a; as-long = refl }
+
+module _ (file : List ℕ) (lay : Layout) (limit budget cells trail₀ work₀ fresh₀ units₀ : ℕ) (w₀ : List ℕ) (trail work fresh units : ℕ) (w : List ℕ) (i : Matching file lay limit budget cells trail₀ work₀ fresh₀ units₀ w₀ trail work fresh units w) where
+  pub match-late : budget ≤ units → MatchesPairs file lay limit budget cells trail₀ work₀ fresh₀ units₀ w₀ (came-out Late trail work fresh units) w
+  match-late h = i .rest _ _ (late h)
+
+  module _ (h : units < budget) (unit : ℕ) (e : unit ≡ plus units 1) where
+    pub match-less : budget < 2 ^ 32 → budget - unit < budget - units
+    unfolding plus
+    match-less b = let z : (units + 1) % 2 ^ 32 ≡ units + 1 = mod-eq-of-lt (omega arith) in rw (e, z) (omega arith)
+
+    module _ (x : Pairing) (v : List ℕ) (a : TakesPair file lay limit unit cells trail work fresh w x v) where
+      pub match-differed : x ≡ Differ → MatchesPairs file lay limit budget cells trail₀ work₀ fresh₀ units₀ w₀ (came-out Differed trail work fresh unit) v
+      match-differed f = i .rest _ _ (rw e (differed h (rw (f, e) at a)))
+
+      pub match-crowded : x ≡ Over → MatchesPairs file lay limit budget cells trail₀ work₀ fresh₀ units₀ w₀ (came-out Crowded trail work fresh unit) v
+      match-crowded f = i .rest _ _ (rw e (crowded-out h (rw (f, e) at a)))
+
+      module _ (t k n : ℕ) (f : x ≡ Same t k n) where
+        pub match-all : k ≡ 0 → MatchesPairs file lay limit budget cells trail₀ work₀ fresh₀ units₀ w₀ (came-out Matched t k n unit) v
+        match-all z = i .rest _ _ (rw e (matched-all h (rw (f, e) at a) z))
+
+        pub match-again : (k ≡ 0 → ⊥) → length v ≡ length w → Matching file lay limit budget cells trail₀ work₀ fresh₀ units₀ w₀ t k n unit v
+        match-again z l = record { rest = λ r u b. i .rest r u (next-pair h (rw (f, e) at a) z (rw e at b)); as-long = l ∙ i .as-long }

@@ -20,11 +20,9 @@ use Rattle.words.specs.Words.{plus, ahead}
 use Rattle.cells.specs.Cells.{undone, freed}
 use Rattle.cells.specs.declared.Held.{Held}
 use Rattle.cells.specs.declared.Layout.{Layout}
-use Rattle.matching.specs.Matching.{put-four, word-of-place, place-after, past-kind, pushed, TakesPair}
-use Rattle.matching.specs.declared.Pairing.{Pairing}
-use Rattle.matching.specs.declared.Pairing.the-variants.{Same, Differ, Over}
+use Rattle.matching.specs.Matching.{put-four, word-of-place, place-after, past-kind, pushed}
 use Rattle.search.specs.Search.{step-word, step-next, settled-next, clause-place-word, clause-next-word, below-of, rest-word, retried, Backs, no-choice, retries, pops}
-use Rattle.search.specs.Search.{trial-of, Calls, no-clause, first-clause, GoesOn, a-cut, no-goal, a-goal, MatchesOn, matched, more, step-put, room-of, arity-at, paired, entered-regs, entered-words, Enters, enters, TriesHead, over-cells, over-steps, tries, MovesPair, same, differ, over-work, kept-of, cut-regs, MovesCut, cuts, start-regs, Starts, none-wanted, few-cells, starts}
+use Rattle.search.specs.Search.{trial-of, Calls, no-clause, first-clause, GoesOn, a-cut, no-goal, a-goal, step-put, room-of, arity-at, paired, entered-regs, entered-words, Enters, enters, kept-of, cut-regs, MovesCut, cuts, start-regs, Starts, none-wanted, few-cells, starts}
 use Rattle.search.specs.declared.Limits.{Limits}
 use Rattle.search.specs.declared.Given.{Given}
 use Rattle.search.specs.declared.Next.{Next}
@@ -96,7 +94,7 @@ unfolding rest-word
 rest-read w lay c a b p q e f g h = rw (f, e, h, g) refl
 
 pub retry-is : (w : List ℕ) (lay : Layout) (m : Regs) (trail c steps prior k : ℕ) (n : Next) (g a d : ℕ) → n ≡ step-next w lay c → g ≡ step-word w lay c 1 → a ≡ step-word w lay c 2 → d ≡ step-word w lay c 5
-    → Try (record { clause = record { 0 = k }; goal = record { 0 = g }; caller = record { 0 = a }; next = n }) (record { cells = d; trail = trail; steps = steps; choice = prior; work = m .work; next = m .next; units = m .units }) ≡ retried w lay m trail c steps prior k
+    → Try (record { cells = d; trail = trail; steps = steps; choice = prior; work = m .work; fresh = m .fresh; next = m .next; units = m .units }) (record { clause = record { 0 = k }; goal = record { 0 = g }; caller = record { 0 = a }; next = n }) ≡ retried w lay m trail c steps prior k
 unfolding retried
 retry-is w lay m trail c steps prior k n g a d e f h i = rw (e, f, h, i) refl
 
@@ -109,7 +107,7 @@ pub back-start : (lay : Layout) (m : Regs) (trail c : ℕ) (w : List ℕ) → Ba
 back-start lay m trail c w = record { rest = λ d u q. q; as-long = refl }
 
 module _ (lay : Layout) (m : Regs) (trail₀ c₀ : ℕ) (w₀ : List ℕ) (trail c : ℕ) (w : List ℕ) (i : Backing lay m trail₀ c₀ w₀ trail c w) where
-  pub back-none : c ≤ 0 → Backs lay m trail₀ c₀ w₀ (Over·due NoMore (record { cells = m .cells; trail = trail; steps = m .steps; choice = 0; work = m .work; next = m .next; units = m .units })) w
+  pub back-none : c ≤ 0 → Backs lay m trail₀ c₀ w₀ (Over·due NoMore (record { cells = m .cells; trail = trail; steps = m .steps; choice = 0; work = m .work; fresh = m .fresh; next = m .next; units = m .units })) w
   back-none h = i .rest _ _ (no-choice h)
 
   module _ (mark : ℕ) (v : List ℕ) (r : Rest) (h : 0 < c) (e : mark ≡ step-word w lay c 6) (f : v ≡ undone trail mark lay w) (g : r ≡ rest-word v lay c) where
@@ -139,7 +137,7 @@ module _ (file : List ℕ) (lay : Layout) (m : Regs) (n : Next) (w : List ℕ) (
   pub call-none : (d : Due) (u : List ℕ) → v ≡ 0 → Backs lay m (m .trail) (m .choice) w d u → Calls file lay m n w d u
   call-none d u z b = no-clause (sym first-word ∙ z) b
 
-  pub call-first : (t : Trial) → (v ≡ 0 → ⊥) → t ≡ trial-of file w lay n (v - 1) → Calls file lay m n w (Try t m) w
+  pub call-first : (t : Trial) → (v ≡ 0 → ⊥) → t ≡ trial-of file w lay n (v - 1) → Calls file lay m n w (Try m t) w
   call-first t z g = rw g (first-clause (sym first-word ∙ one-more v z))
     where
       one-more : (v : ℕ) → (v ≡ 0 → ⊥) → v ≡ suc (v - 1)
@@ -154,12 +152,6 @@ module _ (file : List ℕ) (lay : Layout) (m : Regs) (w : List ℕ) (k : ℕ) (e
 
   pub go-goal : (d : Due) (v : List ℕ) → k ≡ 6 → Calls file lay m (m .next) w d v → GoesOn file lay m w d v
   go-goal d v t c = a-goal (sym e ∙ t) c
-
-pub match-done : (file : List ℕ) (lay : Layout) (m : Regs) (w v : List ℕ) (d : Due) → m .work ≡ 0 → GoesOn file lay m w d v → MatchesOn file lay m w d v
-match-done file lay m w v d e g = matched e g
-
-pub match-more : (file : List ℕ) (lay : Layout) (m : Regs) (w : List ℕ) → (m .work ≡ 0 → ⊥) → MatchesOn file lay m w (Pair m) w
-match-more file lay m w n = more n
 
 -- ---- trying a head
 pub step-is-put : (lay : Layout) (t : Trial) (m : Regs) (w v u : List ℕ) (x y : ℕ) → x ≡ word-of-place (t .goal) → y ≡ word-of-place (t .next .place) → v ≡ put-four w (lay .steps + 8 * m .steps) (t .clause .0) x (t .caller .0) y
@@ -193,7 +185,7 @@ unfolding paired
 pair-up-is lay n t p base w v s h e f g = rw (g, e, f) refl
 
 pub entered-is : (file w : List ℕ) (lay : Layout) (m : Regs) (p b : Place) (variables pairs s c : ℕ) (x : Next) → s ≡ plus (m .steps) 1 → b ≡ place-after w p → x ≡ settled-next file w lay (record { place = b; step = s }) → c ≡ plus (m .cells) variables
-    → _≡_ {A = Regs} (record { cells = c; trail = m .trail; steps = s; choice = s; work = pairs; next = x; units = m .units }) (entered-regs file w lay m p variables pairs)
+    → _≡_ {A = Regs} (record { cells = c; trail = m .trail; steps = s; choice = s; work = pairs; fresh = m .cells; next = x; units = m .units }) (entered-regs file w lay m p variables pairs)
 unfolding entered-regs
 entered-is file w lay m p b variables pairs s c x e f g h = rw (g, f, e, h) refl
 
@@ -202,27 +194,7 @@ pub enter-is : (file : List ℕ) (g : Given) (t : Trial) (m : Regs) (p : Place) 
 unfolding entered-words
 enter-is file g t m p variables w a b v n r e f h i j = rw (j, i, f, e, h) enters
 
-module _ (file : List ℕ) (g : Given) (t : Trial) (m : Regs) (w : List ℕ) (x : Room) (e : x ≡ room-of file w g (t .clause) m) where
-  pub try-cells : x ≡ Room-cells → TriesHead file g t m w (Over·due Cells m) w
-  try-cells f = over-cells (sym e ∙ f)
-
-  pub try-steps : x ≡ Room-steps → TriesHead file g t m w (Over·due Steps m) w
-  try-steps f = over-steps (sym e ∙ f)
-
-  pub try-fits : (p : Place) (variables : ℕ) (n : Regs) (d : Due) (v u : List ℕ) → x ≡ Fits p variables → Enters file g t m p variables w n v → MatchesOn file (g .lay) n v d u → TriesHead file g t m w d u
-  try-fits p variables n d v u f a b = tries (sym e ∙ f) a b
-
 -- ---- the other moves
-module _ (file : List ℕ) (g : Given) (m : Regs) (w v : List ℕ) (x : Pairing) (a : TakesPair file (g .lay) (g .limits .work) (m .units) (m .trail) (m .work) w x v) where
-  pub pair-same : (trail work : ℕ) (d : Due) (u : List ℕ) → x ≡ Same trail work → MatchesOn file (g .lay) (record { cells = m .cells; trail = trail; steps = m .steps; choice = m .choice; work = work; next = m .next; units = m .units }) v d u → MovesPair file g m w d u
-  pair-same trail work d u e b = same (rw e at a) b
-
-  pub pair-differ : (d : Due) (u : List ℕ) → x ≡ Differ → Backs (g .lay) m (m .trail) (m .choice) v d u → MovesPair file g m w d u
-  pair-differ d u e b = differ (rw e at a) b
-
-  pub pair-over : x ≡ Over → MovesPair file g m w (Over·due Work m) v
-  pair-over e = over-work (rw e at a)
-
 pub kept-all : (w : List ℕ) (lay : Layout) (choice step : ℕ) → step ≡ 0 → choice ≡ kept-of w lay choice step
 unfolding kept-of
 kept-all w lay choice step e = rw e refl
@@ -233,20 +205,20 @@ kept-before w lay choice zero v n e = absurd (n refl)
 kept-before w lay choice (suc i) v n e = e
 
 pub cut-is : (file : List ℕ) (lay : Layout) (m : Regs) (w v : List ℕ) (d : Due) (q c : ℕ) (x : Next) → q ≡ ahead (m .next .place .0) 1 → c ≡ kept-of w lay (m .choice) (m .next .step) → x ≡ settled-next file w lay (record { place = record { 0 = q }; step = m .next .step })
-    → GoesOn file lay (record { cells = m .cells; trail = m .trail; steps = m .steps; choice = c; work = m .work; next = x; units = m .units }) w d v → MovesCut file lay m w d v
+    → GoesOn file lay (record { cells = m .cells; trail = m .trail; steps = m .steps; choice = c; work = m .work; fresh = m .fresh; next = x; units = m .units }) w d v → MovesCut file lay m w d v
 unfolding cut-regs
 cut-is file lay m w v d q c x e f g h = cuts {d = d} {v = v} (rw (← f, ← e, ← g) h)
 
 module _ (file : List ℕ) (g : Given) (wanted : ℕ) (w : List ℕ) (n q : ℕ) (e : n ≡ byte file (g .query .0 + 1)) (f : q ≡ ahead (g .query .0) 3) where
-  first-regs : _≡_ {A = Regs} (record { cells = n; trail = 0; steps = 0; choice = 0; work = 0; next = record { place = record { 0 = q }; step = 0 }; units = 0 }) (start-regs file g)
+  first-regs : _≡_ {A = Regs} (record { cells = n; trail = 0; steps = 0; choice = 0; work = 0; fresh = 0; next = record { place = record { 0 = q }; step = 0 }; units = 0 }) (start-regs file g)
   unfolding start-regs
   first-regs = rw (e, f) refl
 
-  pub start-none : wanted ≡ 0 → Starts file g wanted w (Over·due Wanted (record { cells = n; trail = 0; steps = 0; choice = 0; work = 0; next = record { place = record { 0 = q }; step = 0 }; units = 0 })) w
+  pub start-none : wanted ≡ 0 → Starts file g wanted w (Over·due Wanted (record { cells = n; trail = 0; steps = 0; choice = 0; work = 0; fresh = 0; next = record { place = record { 0 = q }; step = 0 }; units = 0 })) w
   start-none z = rw first-regs (none-wanted z)
 
-  pub start-few : (wanted ≡ 0 → ⊥) → g .limits .cells < n → Starts file g wanted w (Over·due Cells (record { cells = n; trail = 0; steps = 0; choice = 0; work = 0; next = record { place = record { 0 = q }; step = 0 }; units = 0 })) w
+  pub start-few : (wanted ≡ 0 → ⊥) → g .limits .cells < n → Starts file g wanted w (Over·due Cells (record { cells = n; trail = 0; steps = 0; choice = 0; work = 0; fresh = 0; next = record { place = record { 0 = q }; step = 0 }; units = 0 })) w
   start-few z h = rw first-regs (few-cells z (rw e at h))
 
-  pub start-starts : (v u : List ℕ) (d : Due) → (wanted ≡ 0 → ⊥) → n ≤ g .limits .cells → v ≡ freed n 0 (g .lay) w → GoesOn file (g .lay) (record { cells = n; trail = 0; steps = 0; choice = 0; work = 0; next = record { place = record { 0 = q }; step = 0 }; units = 0 }) v d u → Starts file g wanted w d u
+  pub start-starts : (v u : List ℕ) (d : Due) → (wanted ≡ 0 → ⊥) → n ≤ g .limits .cells → v ≡ freed n 0 (g .lay) w → GoesOn file (g .lay) (record { cells = n; trail = 0; steps = 0; choice = 0; work = 0; fresh = 0; next = record { place = record { 0 = q }; step = 0 }; units = 0 }) v d u → Starts file g wanted w d u
   start-starts v u d z h i j = starts z (rw e at h) (rw (first-regs, i, e) at j)

@@ -62,12 +62,12 @@ rest-word w lay c = record { prior = below-of (step-word w lay c 7) c; clause = 
 unfoldable pub retried : List ℕ → Layout → Regs → ℕ → ℕ → ℕ → ℕ → ℕ → Due
 retried w lay m trail c steps prior k =
     Try
+    (record { cells = step-word w lay c 5; trail = trail; steps = steps; choice = prior; work = m .work; fresh = m .fresh; next = m .next; units = m .units })
     (record { clause = record { 0 = k }; goal = record { 0 = step-word w lay c 1 }; caller = record { 0 = step-word w lay c 2 }; next = step-next w lay c })
-    (record { cells = step-word w lay c 5; trail = trail; steps = steps; choice = prior; work = m .work; next = m .next; units = m .units })
 
 -- going back from the choice c, with so many bindings
 pub data Backs (lay : Layout) (m : Regs) : ℕ → ℕ → List ℕ → Due → List ℕ → Type 0 where
-  no-choice : {trail c : ℕ} {w : List ℕ} → c ≤ 0 → Backs lay m trail c w (Over·due NoMore (record { cells = m .cells; trail = trail; steps = m .steps; choice = 0; work = m .work; next = m .next; units = m .units })) w
+  no-choice : {trail c : ℕ} {w : List ℕ} → c ≤ 0 → Backs lay m trail c w (Over·due NoMore (record { cells = m .cells; trail = trail; steps = m .steps; choice = 0; work = m .work; fresh = m .fresh; next = m .next; units = m .units })) w
   retries : {trail c : ℕ} {w v : List ℕ} → 0 < c → v ≡ undone trail (step-word w lay c 6) lay w → 0 < rest-word v lay c .clause
       → Backs lay m trail c w (retried v lay m (step-word w lay c 6) c (c - 1) (rest-word v lay c .prior) (rest-word v lay c .clause - 1)) v
   pops : {trail c : ℕ} {w v u : List ℕ} {d : Due} → 0 < c → v ≡ undone trail (step-word w lay c 6) lay w → rest-word v lay c .clause ≤ 0
@@ -85,7 +85,7 @@ trial-of file w lay n k = record {
 -- the predicate goal at n is called: it has no clause, or its first one is to be tried
 pub data Calls (file : List ℕ) (lay : Layout) (m : Regs) (n : Next) (w : List ℕ) : Due → List ℕ → Type 0 where
   no-clause : {d : Due} {v : List ℕ} → getD w (lay .firsts + two-bytes file (n .place .0 + 1)) 0 ≡ 0 → Backs lay m (m .trail) (m .choice) w d v → Calls file lay m n w d v
-  first-clause : {k : ℕ} → getD w (lay .firsts + two-bytes file (n .place .0 + 1)) 0 ≡ suc k → Calls file lay m n w (Try (trial-of file w lay n k) m) w
+  first-clause : {k : ℕ} → getD w (lay .firsts + two-bytes file (n .place .0 + 1)) 0 ≡ suc k → Calls file lay m n w (Try m (trial-of file w lay n k)) w
 
 -- the first open goal is taken
 pub data GoesOn (file : List ℕ) (lay : Layout) (m : Regs) (w : List ℕ) : Due → List ℕ → Type 0 where
@@ -123,6 +123,7 @@ entered-regs file w lay m p variables pairs = record {
   steps = plus (m .steps) 1;
   choice = plus (m .steps) 1;
   work = pairs;
+  fresh = m .cells;
   next = settled-next file w lay (record { place = place-after w p; step = plus (m .steps) 1 });
   units = m .units;
 }
@@ -143,10 +144,10 @@ pub data TriesHead (file : List ℕ) (g : Given) (t : Trial) (m : Regs) (w : Lis
   tries : {p : Place} {variables : ℕ} {n : Regs} {d : Due} {v u : List ℕ} → room-of file w g (t .clause) m ≡ Fits p variables → Enters file g t m p variables w n v → MatchesOn file (g .lay) n v d u → TriesHead file g t m w d u
 
 pub data MovesPair (file : List ℕ) (g : Given) (m : Regs) (w : List ℕ) : Due → List ℕ → Type 0 where
-  same : {trail work : ℕ} {d : Due} {v u : List ℕ} → TakesPair file (g .lay) (g .limits .work) (m .units) (m .trail) (m .work) w (Same trail work) v
-      → MatchesOn file (g .lay) (record { cells = m .cells; trail = trail; steps = m .steps; choice = m .choice; work = work; next = m .next; units = m .units }) v d u → MovesPair file g m w d u
-  differ : {d : Due} {v u : List ℕ} → TakesPair file (g .lay) (g .limits .work) (m .units) (m .trail) (m .work) w Differ v → Backs (g .lay) m (m .trail) (m .choice) v d u → MovesPair file g m w d u
-  over-work : {v : List ℕ} → TakesPair file (g .lay) (g .limits .work) (m .units) (m .trail) (m .work) w Over v → MovesPair file g m w (Over·due Work m) v
+  same : {trail work fresh : ℕ} {d : Due} {v u : List ℕ} → TakesPair file (g .lay) (g .limits .work) (m .units) (m .cells) (m .trail) (m .work) (m .fresh) w (Same trail work fresh) v
+      → MatchesOn file (g .lay) (record { cells = m .cells; trail = trail; steps = m .steps; choice = m .choice; work = work; fresh = fresh; next = m .next; units = m .units }) v d u → MovesPair file g m w d u
+  differ : {d : Due} {v u : List ℕ} → TakesPair file (g .lay) (g .limits .work) (m .units) (m .cells) (m .trail) (m .work) (m .fresh) w Differ v → Backs (g .lay) m (m .trail) (m .choice) v d u → MovesPair file g m w d u
+  over-work : {v : List ℕ} → TakesPair file (g .lay) (g .limits .work) (m .units) (m .cells) (m .trail) (m .work) (m .fresh) w Over v → MovesPair file g m w (Over·due Work m) v
 
 unfoldable pub kept-of : List ℕ → Layout → ℕ → ℕ → ℕ
 kept-of w lay choice zero = choice
@@ -160,6 +161,7 @@ cut-regs file w lay m = record {
   steps = m .steps;
   choice = kept-of w lay (m .choice) (m .next .step);
   work = m .work;
+  fresh = m .fresh;
   next = settled-next file w lay (record { place = record { 0 = ahead (m .next .place .0) 1 }; step = m .next .step });
   units = m .units;
 }
@@ -175,6 +177,7 @@ start-regs file g = record {
   steps = 0;
   choice = 0;
   work = 0;
+  fresh = 0;
   next = record { place = record { 0 = ahead (g .query .0) 3 }; step = 0 };
   units = 0;
 }

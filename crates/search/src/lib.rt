@@ -3,13 +3,11 @@ use cells::Held;
 use cells::Layout;
 use cells::clear;
 use cells::undo;
-use matching::Pairing;
 use matching::after;
 use matching::behind;
 use matching::place_word;
 use matching::push_pairs;
 use matching::put_four;
-use matching::take_pair;
 use meaning::CellNumber;
 use meaning::ClauseNumber;
 use meaning::End;
@@ -21,7 +19,7 @@ use words::get;
 use words::number_after;
 use words::on;
 ghost use mathlib.Core.Path.{_≡_};
-ghost use Rattle.search.specs.Search.{step-word, settled-next, clause-place-word, clause-next-word, below-of, step-next, rest-word, retried, Backs, trial-of, GoesOn, Calls, MatchesOn, step-put, room-of, arity-at, paired, entered-regs, Enters, TriesHead, MovesPair, kept-of, MovesCut, Starts};
+ghost use Rattle.search.specs.Search.{step-word, settled-next, clause-place-word, clause-next-word, below-of, step-next, rest-word, retried, Backs, trial-of, GoesOn, Calls, step-put, room-of, arity-at, paired, entered-regs, Enters, kept-of, MovesCut, Starts};
 
 pub struct Limits {
     pub cells: u32,
@@ -43,13 +41,15 @@ pub struct Next {
     pub step: u32,
 }
 
-// Where a run is: cells taken, bindings, steps, the latest choice (a step from 1; 0 is none), pairs to match, the open goals, units spent.
+// Where a run is: cells taken, bindings, steps, the latest choice (a step from 1; 0 is none), pairs to match, the first cell that no value
+// and no goal side of a pair mentions, the open goals, units spent.
 pub struct Regs {
     pub cells: u32,
     pub trail: u32,
     pub steps: u32,
     pub choice: u32,
     pub work: u32,
+    pub fresh: u32,
     pub next: Next,
     pub units: u32,
 }
@@ -64,7 +64,7 @@ pub struct Trial {
 
 // What is due: a move, which costs a unit, an answer, or the end.
 pub enum Due {
-    Try(Trial, Regs),
+    Try(Regs, Trial),
     Pair(Regs),
     Cut(Regs),
     Answer(Regs),
@@ -162,7 +162,7 @@ fn retry(w: &[u32], lay: Layout, m: Regs, trail: u32, c: u32, steps: u32, prior:
         choice: prior,
         ..m
     };
-    Due::Try(t, n)
+    Due::Try(n, t)
 }
 
 // Failure goes back to the latest goal with untried clauses.
@@ -239,17 +239,7 @@ fn call(file: &[u8], w: &mut [u32], lay: Layout, m: Regs, n: Next) -> Due
         return back(w, lay, m);
     }
     let t = first_trial(file, w, lay, n, v - 1);
-    Due::Try(t, m)
-}
-
-// The pairs are matched; none is left: the head matched.
-fn match_on(file: &[u8], w: &mut [u32], lay: Layout, m: Regs) -> Due
-    ensures { λ r. ⌜ MatchesOn (now (file .entry)) lay m (now (w .entry)) r (now (w .exit)) ⌝ }
-{
-    if m.work == 0 {
-        return go_on(file, w, lay, m);
-    }
-    Due::Pair(m)
+    Due::Try(m, t)
 }
 
 // The record of a step: its clause, the goal, the goals behind it, and how far the run was.
@@ -273,7 +263,7 @@ pub enum Room {
     Fits(Place, u32),
 }
 
-fn room_for(file: &[u8], w: &[u32], g: Given, k: ClauseNumber, m: Regs) -> Room
+pub fn room_for(file: &[u8], w: &[u32], g: Given, k: ClauseNumber, m: Regs) -> Room
     ensures { λ r. ⌜ r ≡ room-of (now (file .entry)) (now (w .entry)) g k m ⌝ }
 {
     let lay = g.lay;
@@ -337,13 +327,22 @@ fn entered(
         steps: step,
         choice: step,
         work: pairs,
+        fresh: m.cells,
         next,
         ..m
     }
 }
 
 // The clause at p is entered: one step more, its fresh cells, its pairs.
-fn enter(file: &[u8], w: &mut [u32], g: Given, t: Trial, m: Regs, p: Place, variables: u32) -> Regs
+pub fn enter(
+    file: &[u8],
+    w: &mut [u32],
+    g: Given,
+    t: Trial,
+    m: Regs,
+    p: Place,
+    variables: u32,
+) -> Regs
     ensures { λ r. ⌜ Enters (now (file .entry)) g t m p variables (now (w .entry)) r (now (w .exit)) ⌝ }
 {
     let lay = g.lay;
@@ -353,35 +352,6 @@ fn enter(file: &[u8], w: &mut [u32], g: Given, t: Trial, m: Regs, p: Place, vari
     let n = arity_of(file, g.functions, goal);
     pair_up(w, lay, n, t, p, m.cells);
     entered(file, w, lay, m, p, variables, n)
-}
-
-// A head is tried, its unit being spent.
-pub fn try_head(file: &[u8], w: &mut [u32], g: Given, t: Trial, m: Regs) -> Due
-    ensures { λ r. ⌜ TriesHead (now (file .entry)) g t m (now (w .entry)) r (now (w .exit)) ⌝ }
-{
-    let lay = g.lay;
-    let k = t.clause;
-    match room_for(file, w, g, k, m) {
-        Room::Cells => Due::Over(End::Cells, m),
-        Room::Steps => Due::Over(End::Steps, m),
-        Room::Fits(p, variables) => {
-            let n = enter(file, w, g, t, m, p, variables);
-            match_on(file, w, lay, n)
-        }
-    }
-}
-
-// The front pair is taken, its unit being spent.
-pub fn move_pair(file: &[u8], w: &mut [u32], g: Given, m: Regs) -> Due
-    ensures { λ r. ⌜ MovesPair (now (file .entry)) g m (now (w .entry)) r (now (w .exit)) ⌝ }
-{
-    let lay = g.lay;
-    let limits = g.limits;
-    match take_pair(file, w, lay, limits.work, m.units, m.trail, m.work) {
-        Pairing::Same(trail, work) => match_on(file, w, lay, Regs { trail, work, ..m }),
-        Pairing::Differ => back(w, lay, m),
-        Pairing::Over => Due::Over(End::Work, m),
-    }
 }
 
 // What a cut leaves: the choices before its own goal; one of the query leaves all.
@@ -423,6 +393,7 @@ pub fn start(file: &[u8], w: &mut [u32], g: Given, wanted: u32) -> Due
         steps: 0,
         choice: 0,
         work: 0,
+        fresh: 0,
         next: Next {
             place: Place(on(q.0, 3)),
             step: 0,

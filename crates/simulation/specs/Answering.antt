@@ -24,7 +24,7 @@ use Rattle.demands.specs.Order.{each-map}
 use Rattle.demands.specs.TermLaws.{In, Ins}
 use Rattle.demands.specs.StoreLaws.{Sound}
 use Rattle.demands.specs.Ways.{GoodAt}
-use Rattle.demands.specs.WellLaws.{Good, GoodStore, well-in, well-inst}
+use Rattle.demands.specs.WellLaws.{well-in, store-bindings-good, value-good}
 use Rattle.layout.specs.Regions.{word, Keeps}
 use Rattle.search.specs.Search.{step-word}
 use Rattle.search.specs.declared.Regs.{Regs}
@@ -46,14 +46,6 @@ use Rattle.simulation.specs.Pieces.{put, bytes-join, sets-join, first-se
 use Rattle.simulation.specs.Walks.{Ends, went, halts, halts-stop, Counts, NumbersAre, At, Ground, values-walk}
 
 -- ---- the variables of values
--- the value of a cell is over the cells
-value-good : (fs : List ℕ) (n : ℕ) (s : Store) → GoodStore fs n s → (y : ℕ) → y < n → Good fs n (value s y)
-unfolding value only
-value-good fs n empty g y h = h
-value-good fs n (bind x t s) g y h =
-    let T : Good fs n (inst (value s) t) = well-inst fs (λ z. z < n) (λ z. z < n) (value s) (value-good fs n s (g .2)) t (g .1) in
-    well-inst fs (λ z. z < n) (λ z. z < n) (only x (inst (value s) t)) (λ z k. if-by (Good fs n) (eqb z x) (λ p. T) (λ p. k)) (value s y) (value-good fs n s (g .2) y h)
-
 values-in : (ν : ℕ → Term) (i n x : ℕ) → Ins x (values-from i n ν) → (y : ℕ) × (y < i + n) × In x (ν y)
 unfolding values-from
 values-in ν i zero x h = absurd h
@@ -139,7 +131,7 @@ module _ (X : Setting) (w : List ℕ) (m : Regs) (n : Derivation) (cs : List Cho
   values-below x i =
       let (y, l, k) = values-in (value (n .store)) 0 (X .rules .variables) x i in
       let h = known .asks in
-      well-in (X .rules .functions) (λ z. z < n .cells) x (value (n .store) y) (value-good (X .rules .functions) (n .cells) (n .store) (known .store) y (omega arith)) k
+      well-in (X .rules .functions) (λ z. z < n .cells) x (value (n .store) y) (value-good (X .rules .functions) (n .cells) (n .store) (store-bindings-good (X .rules .functions) (n .cells) (n .store) (known .store)) y (omega arith)) k
 
   all-few : length all ≤ 60_000
   unfolding all

@@ -19,18 +19,19 @@ use Rattle.simulation.specs.Rep.{Setting, lay, HeightIs, no-height, heig
 use Rattle.simulation.specs.Frames.{choices-later}
 use Rattle.simulation.specs.TableFrames.{tables-room}
 use Rattle.simulation.specs.States.{SoundAll, none, more as more-sound, Fair, StoreRep, Run, Onward, AtIs, DueIs, is-pair}
+use Rattle.simulation.specs.Unmentioned.{Unmentioned}
 use Rattle.simulation.specs.Goals.{First, a-cut, an-idle, goals-first, SettledAt, settled-is}
 use Rattle.simulation.specs.Going.{ahead-small, goes-on}
 
 module _ (X : Setting) (wanted room : ℕ) where
   -- ---- pairs
-  pub matches-on : (w : List ℕ) (m : Regs) (ps : List Pair) (n : Derivation) (cs : List Choice) (d : Done) {r : Due} {v : List ℕ} → MatchesOn (X .file) (lay X) m w r v → AtIs X w m ps n cs → Fair X n cs → m .units ≡ d .units
+  pub matches-on : (w : List ℕ) (m : Regs) (ps : List Pair) (n : Derivation) (cs : List Choice) (d : Done) {r : Due} {v : List ℕ} → MatchesOn (X .file) (lay X) m w r v → AtIs X w m ps n cs → Unmentioned (X .rules .functions) (m .fresh) (n .store) ps → Fair X n cs → m .units ≡ d .units
       → DueIs X v wanted room d r (matching (X .rules) (X .limits) wanted room ps n cs d)
   unfolding matching
-  matches-on w m [] n cs d (matched e g) at fair un = goes-on X wanted room w m n cs d at fair un g
-  matches-on w m [] n cs d (more e) at fair un = absurd (e (at .pairs))
-  matches-on w m (p ∷ ps) n cs d (matched e g) at fair un = let q = at .pairs .1 in absurd (omega arith)
-  matches-on w m (p ∷ ps) n cs d (more e) at fair un = is-pair at un
+  matches-on w m [] n cs d (matched e g) at fresh fair un = goes-on X wanted room w m n cs d at fair un g
+  matches-on w m [] n cs d (more e) at fresh fair un = absurd (e (at .pairs))
+  matches-on w m (p ∷ ps) n cs d (matched e g) at fresh fair un = let q = at .pairs .1 in absurd (omega arith)
+  matches-on w m (p ∷ ps) n cs d (more e) at fresh fair un = is-pair at fresh un
 
   -- ---- choices that a cut keeps
   height-length : (w : List ℕ) {s : Store} {u c h : ℕ} {cs : List Choice} → HeightIs X w c h → ChoicesAre X w s u c cs → length cs ≡ h

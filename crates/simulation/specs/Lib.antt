@@ -7,6 +7,7 @@ pub mod Ranges
 pub mod Frames
 pub mod Undoes
 pub mod TableFrames
+pub mod Unmentioned
 pub mod States
 pub mod Backing
 pub mod Goals

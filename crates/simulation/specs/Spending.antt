@@ -14,7 +14,7 @@ use Rattle.simulation.specs.States.{Run, Onward, TryIs, AtIs}
 
 -- the same, with so many units spent
 abbrev pub later : Regs → ℕ → Regs
-later m u = record { cells = m .cells; trail = m .trail; steps = m .steps; choice = m .choice; work = m .work; next = m .next; units = u }
+later m u = record { cells = m .cells; trail = m .trail; steps = m .steps; choice = m .choice; work = m .work; fresh = m .fresh; next = m .next; units = u }
 
 module _ (X : Setting) (w : List ℕ) (m : Regs) (u : ℕ) (h : u ≡ suc (m .units)) where
   later-run : {n : Derivation} {cs : List Choice} → Run X w m n cs → Run X w (later m u) n cs

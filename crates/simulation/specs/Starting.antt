@@ -38,7 +38,7 @@ module _ (X : Setting) (wanted room : ℕ) where
   n₀ = record { goals = map query-goal (X .rules .query); store = empty; cells = X .rules .variables; steps = [] }
 
   abbrev m₀ : Regs
-  m₀ = record { cells = X .rules .variables; trail = 0; steps = 0; choice = 0; work = 0; next = record { place = record { 0 = query-place (X .rules) + 3 }; step = 0 }; units = 0 }
+  m₀ = record { cells = X .rules .variables; trail = 0; steps = 0; choice = 0; work = 0; fresh = 0; next = record { place = record { 0 = query-place (X .rules) + 3 }; step = 0 }; units = 0 }
 
   -- the registers before the first unit
   regs-are : start-regs (X .file) (given-of X) ≡ m₀

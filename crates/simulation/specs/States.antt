@@ -25,6 +25,7 @@ use Rattle.search.specs.declared.Due.{Due}
 use Rattle.search.specs.declared.Due.the-variants.{Try, Pair as Pair-due, Cut, Answer, Over}
 use Rattle.simulation.specs.Rep.{Setting, lay, Base, StoreIs, FreeIs, MarksAre, PairsAre, StepsAre, Links, Settled, GoalsAre, GoalIs, ChoicesAre}
 use Rattle.simulation.specs.Undoes.{Within}
+use Rattle.simulation.specs.Unmentioned.{Unmentioned}
 
 module _ (X : Setting) where
   -- every choice has a sound store over the C cells
@@ -84,8 +85,8 @@ module _ (X : Setting) (w : List ℕ) where
   module _ (wanted room : ℕ) (d : Done) where
     -- what is due is what the state says, once so much was done
     pub data DueIs : Due → State → Type 0 where
-      is-try : {t : Trial} {m : Regs} {k : Numbered} {ks : List Numbered} {g : Call} {n : Derivation} {cs : List Choice} → TryIs t m k ks g n cs → m .units ≡ d .units → DueIs (Try t m) (due (trying k (choice ks g n) cs) d)
-      is-pair : {m : Regs} {p : Pair} {ps : List Pair} {n : Derivation} {cs : List Choice} → AtIs m (p ∷ ps) n cs → m .units ≡ d .units → DueIs (Pair-due m) (due (taking p ps n cs) d)
+      is-try : {t : Trial} {m : Regs} {k : Numbered} {ks : List Numbered} {g : Call} {n : Derivation} {cs : List Choice} → TryIs t m k ks g n cs → m .units ≡ d .units → DueIs (Try m t) (due (trying k (choice ks g n) cs) d)
+      is-pair : {m : Regs} {p : Pair} {ps : List Pair} {n : Derivation} {cs : List Choice} → AtIs m (p ∷ ps) n cs → Unmentioned (X .rules .functions) (m .fresh) (n .store) (p ∷ ps) → m .units ≡ d .units → DueIs (Pair-due m) (due (taking p ps n cs) d)
       is-cut : {m : Regs} {h : ℕ} {n : Derivation} {cs : List Choice} → AtIs m [] (with-goals (cut-to h ∷ n .goals) n) cs → m .units ≡ d .units → DueIs (Cut m) (due (cutting h n cs) d)
       is-idle : {m : Regs} {n : Derivation} {cs : List Choice} → AtIs m [] (with-goals (cut-idle ∷ n .goals) n) cs → m .units ≡ d .units → DueIs (Cut m) (due (cutting (length cs) n cs) d)
       is-answer : {m : Regs} (n : Derivation) (cs : List Choice) → AtIs m [] n cs → Fair X n cs → n .goals ≡ [] → m .units ≡ d .units → DueIs (Answer m) (answering (X .rules) (X .limits) wanted room n cs d)

@@ -25,7 +25,7 @@ use Rattle.meaning.specs.Call.{needed}
 use Rattle.laws.specs.IfLaws.{if-by, if-true, if-false}
 use Rattle.demands.specs.TermLaws.{In, occurs-false, count-insts}
 use Rattle.demands.specs.StoreLaws.{Free, Sound, follow-free}
-use Rattle.demands.specs.WellLaws.{Good, GoodStore, GoodPairs, follow-good}
+use Rattle.demands.specs.WellLaws.{Good, GoodStore, GoodPairs, follow-good, followed-good}
 use Rattle.demands.specs.Ways.{GoodAt}
 use Rattle.layout.specs.Regions.{word, Keeps}
 use Rattle.words.specs.Words.{plus, ahead}
@@ -34,7 +34,7 @@ use Rattle.cells.specs.declared.Held.{Held}
 use Rattle.cells.specs.declared.Cell.the-variants.{Bound}
 use Rattle.cells.specs.declared.Found.{Found}
 use Rattle.cells.specs.declared.Found.the-variants.{Unbound, Function}
-use Rattle.matching.specs.Matching.{held-at, past-kind, pushed, BindChecked, is-inside, binds, Functions, unequal, crowded, equal, front-of, Compares, one-variable, head-variable, head-free, goal-free, both-applied, TakesPair, no-pair, front}
+use Rattle.matching.specs.Matching.{held-at, past-kind, pushed, bound-to, one-bound, BindChecked, is-inside, binds, BindHead, unmentioned, mentioned, Functions, unequal, crowded, equal, front-of, Compares, one-variable, head-variable, head-free, goal-free, both-applied, TakesPair, no-pair, front}
 use Rattle.matching.specs.declared.Pairing.{Pairing}
 use Rattle.matching.specs.declared.Pairing.the-variants.{Same, Differ, Over}
 use Rattle.search.specs.Search.{step-word, Backs, MatchesOn, MovesPair, same, differ, over-work}
@@ -50,6 +50,7 @@ use Rattle.simulation.specs.TableFrames.{tables-room, base-same}
 use Rattle.simulation.specs.Undoes.{Within, store-bindings, store-set}
 use Rattle.simulation.specs.Follows.{Stored, FoundIs, follows, bindings-few}
 use Rattle.simulation.specs.Insides.{Looking, insides, store-same, stored-kept}
+use Rattle.simulation.specs.Unmentioned.{Unmentioned, arguments-good, sides-append, all-mentioned, outside, free-apart}
 use Rattle.simulation.specs.States.{Fair, StoreRep, Run, Onward, AtIs, DueIs, is-over}
 use Rattle.simulation.specs.Backing.{backs-fail}
 use Rattle.simulation.specs.Going.{ahead-small}
@@ -147,9 +148,9 @@ module _ (X : Setting) where
         }
 
   -- ---- the same derivation over other inner words
-  inner-run : (w v : List ℕ) (m : Regs) (n : Derivation) (cs : List Choice) (s : Store) (trail work : ℕ) → Inner w v → Run X w m n cs → Older (n .store) s → StoreRep X v s (n .cells) trail (m .units)
-      → Run X v (record { cells = m .cells; trail = trail; steps = m .steps; choice = m .choice; work = work; next = m .next; units = m .units }) (record { goals = n .goals; store = s; cells = n .cells; steps = n .steps }) cs
-  inner-run w v m n cs s trail work i r o rep = record {
+  inner-run : (w v : List ℕ) (m : Regs) (n : Derivation) (cs : List Choice) (s : Store) (trail work fresh : ℕ) → Inner w v → Run X w m n cs → Older (n .store) s → StoreRep X v s (n .cells) trail (m .units)
+      → Run X v (record { cells = m .cells; trail = trail; steps = m .steps; choice = m .choice; work = work; fresh = fresh; next = m .next; units = m .units }) (record { goals = n .goals; store = s; cells = n .cells; steps = n .steps }) cs
+  inner-run w v m n cs s trail work fresh i r o rep = record {
     holds = rep;
     cells = r .cells;
     steps = steps-same X (m .steps) w v (inner-steps w v (m .steps) i) (m .steps) (n .steps) (omega arith) (r .steps);
@@ -158,9 +159,9 @@ module _ (X : Setting) where
     choice = r .choice;
   }
 
-  inner-onward : (w v : List ℕ) (m : Regs) (n : Derivation) (trail work : ℕ) (c : m .choice ≤ m .steps) → Inner w v → Onward X w m (m .next) (n .goals)
-      → Onward X v (record { cells = m .cells; trail = trail; steps = m .steps; choice = m .choice; work = work; next = m .next; units = m .units }) (m .next) (n .goals)
-  inner-onward w v m n trail work c i o = record {
+  inner-onward : (w v : List ℕ) (m : Regs) (n : Derivation) (trail work fresh : ℕ) (c : m .choice ≤ m .steps) → Inner w v → Onward X w m (m .next) (n .goals)
+      → Onward X v (record { cells = m .cells; trail = trail; steps = m .steps; choice = m .choice; work = work; fresh = fresh; next = m .next; units = m .units }) (m .next) (n .goals)
+  inner-onward w v m n trail work fresh c i o = record {
     goals = goals-same X (m .steps) w v (inner-steps w v (m .steps) i) (o .step) (o .goals);
     step = o .step;
     links = links-same X (m .steps) w v (inner-steps w v (m .steps) i) (m .choice) (m .next .step) c (o .step) (o .links);
@@ -180,7 +181,7 @@ module _ (X : Setting) where
   marks-inner w v k = record { as-long = k .same-length; tables = λ i a b. k .same i (inl (omega arith)); above = λ i a. k .same i (inr (omega arith)) }
 
   module _ (wanted room : ℕ) (w : List ℕ) (m : Regs) (p : Pair) (ps : List Pair) (n : Derivation) (cs : List Choice) (d : Done)
-      (at : AtIs X w m (p ∷ ps) n cs) (marks : MarksAre X w (n .cells) (m .units)) (well : GoodPairs (X .rules .functions) (n .cells) (p ∷ ps)) (fair : Fair X n cs) (units : m .units ≡ d .units) where
+      (at : AtIs X w m (p ∷ ps) n cs) (marks : MarksAre X w (n .cells) (m .units)) (well : GoodPairs (X .rules .functions) (n .cells) (p ∷ ps)) (fresh : Unmentioned (X .rules .functions) (m .fresh) (n .store) (p ∷ ps)) (fair : Fair X n cs) (units : m .units ≡ d .units) where
     abbrev s : Store
     s = n .store
 
@@ -201,23 +202,27 @@ module _ (X : Setting) where
 
     -- what the pair comes to
     pub data Comes (v : List ℕ) : Pairing → State → Type 0 where
-      goes : (trail work : ℕ) (qs : List Pair) (o : Derivation)
-          → AtIs X v (record { cells = m .cells; trail = trail; steps = m .steps; choice = m .choice; work = work; next = m .next; units = m .units }) qs o cs → Fair X o cs → Comes v (Same trail work) (matching (X .rules) (X .limits) wanted room qs o cs d)
+      goes : (trail work fresh : ℕ) (qs : List Pair) (o : Derivation)
+          → AtIs X v (record { cells = m .cells; trail = trail; steps = m .steps; choice = m .choice; work = work; fresh = fresh; next = m .next; units = m .units }) qs o cs → Unmentioned (X .rules .functions) fresh (o .store) qs → Fair X o cs → Comes v (Same trail work fresh) (matching (X .rules) (X .limits) wanted room qs o cs d)
       fails : Inner w v → StoreRep X v s (n .cells) (m .trail) (m .units) → Comes v Differ (fail cs d)
       fills : Comes v Over (ended 25 d)
 
+    unchanged : Inner w w
+    unchanged = record { as-long = refl; tables = λ i a b. refl; above = λ i a. refl }
+
+    -- a variable takes the goal's side, and its pair is gone
+    taken : (x : ℕ) (t : Term) → Good (X .rules .functions) (m .fresh) t → Unmentioned (X .rules .functions) (m .fresh) (bind x t s) ps
+    taken x t g = record { bindings = (g, fresh .bindings); goals = fresh .goals .1 }
+
     -- matching goes on with the other pairs, nothing being changed
-    goes-same : Comes w (Same (m .trail) j) (matching (X .rules) (X .limits) wanted room ps n cs d)
+    goes-same : Comes w (Same (m .trail) j (m .fresh)) (matching (X .rules) (X .limits) wanted room ps n cs d)
     goes-same =
-        goes (m .trail) j ps n (record {
-          run = inner-run w w m n cs s (m .trail) j unchanged (at .run) now (at .run .holds);
+        goes (m .trail) j (m .fresh) ps n (record {
+          run = inner-run w w m n cs s (m .trail) j (m .fresh) unchanged (at .run) now (at .run .holds);
           pairs = at .pairs .4;
           few = let e = at .pairs .1 in let f = at .few in omega arith;
-          next = inner-onward w w m n (m .trail) j (at .run .choice) unchanged (at .next);
-        }) fair
-      where
-        unchanged : Inner w w
-        unchanged = record { as-long = refl; tables = λ i a b. refl; above = λ i a. refl }
+          next = inner-onward w w m n (m .trail) j (m .fresh) (at .run .choice) unchanged (at .next);
+        }) (record { bindings = fresh .bindings; goals = fresh .goals .1 }) fair
 
     -- nothing but marks and lists has changed
     kept : (v : List ℕ) → Keeps (lay X .marks) (lay X .marks + 2 * C) w v → MarksAre X v (n .cells) (suc (m .units)) → StoreRep X v s (n .cells) (m .trail) (m .units)
@@ -226,33 +231,47 @@ module _ (X : Setting) where
         record { base = base-same X w v (marks-inner w v k .tables) (k .same-length) (at .run .holds .base); store = st .is; free = st .free; few = at .run .holds .few; marks = mk }
 
     -- the variable is bound
-    bound : (x : ℕ) (h : Held) (t : Term) (v : List ℕ) → Inner w v → StoreRep X v s (n .cells) (m .trail) (m .units) → Sound (bind x t s) → GoodStore (X .rules .functions) (n .cells) (bind x t s) → IsHeld (X .rules) h t
-        → Comes (set (set v (lay X .cells + x) (word-of h)) (lay X .trail + m .trail) x) (Same (plus (m .trail) 1) j) (matching (X .rules) (X .limits) wanted room ps (with-binding x t n) cs d)
-    unfolding with-binding
-    bound x h t v i rep sound-then good-then held =
+    bound : (x : ℕ) (h : Held) (t : Term) (v : List ℕ) (fresh : ℕ) → Unmentioned (X .rules .functions) fresh (bind x t s) ps → Inner w v → StoreRep X v s (n .cells) (m .trail) (m .units) → Sound (bind x t s) → GoodStore (X .rules .functions) (n .cells) (bind x t s) → IsHeld (X .rules) h t
+        → Comes (bound-to (lay X) (m .trail) (record { 0 = x }) h v) (one-bound (m .trail) j fresh) (matching (X .rules) (X .limits) wanted room ps (with-binding x t n) cs d)
+    unfolding with-binding bound-to one-bound
+    bound x h t v fresh un i rep sound-then good-then held =
         let u : List ℕ = set (set v (lay X .cells + x) (word-of h)) (lay X .trail + m .trail) x in
         let b : Inner w u = inner-then w v u i (bound-inner v s (n .cells) (m .trail) (m .units) x h t rep sound-then good-then held) in
         let r : StoreRep X u (bind x t s) (n .cells) (suc (m .trail)) (m .units) = bound-rep v s (n .cells) (m .trail) (m .units) x h t rep sound-then good-then held in
         let z : plus (m .trail) 1 ≡ suc (m .trail) = (let k = k-less v s (n .cells) (m .trail) (m .units) x h t rep sound-then good-then held in let c = cells-few in plus-small (m .trail) 1 (omega arith) ∙ omega arith) in
-        subst (λ (k : ℕ). Comes u (Same k j) (matching (X .rules) (X .limits) wanted room ps (record { goals = n .goals; store = bind x t s; cells = n .cells; steps = n .steps }) cs d)) (sym z)
-        (goes (suc (m .trail)) j ps (record { goals = n .goals; store = bind x t s; cells = n .cells; steps = n .steps }) (record {
-          run = inner-run w u m n cs (bind x t s) (suc (m .trail)) j b (at .run) (since now) r;
+        subst (λ (k : ℕ). Comes u (Same k j fresh) (matching (X .rules) (X .limits) wanted room ps (record { goals = n .goals; store = bind x t s; cells = n .cells; steps = n .steps }) cs d)) (sym z)
+        (goes (suc (m .trail)) j fresh ps (record { goals = n .goals; store = bind x t s; cells = n .cells; steps = n .steps }) (record {
+          run = inner-run w u m n cs (bind x t s) (suc (m .trail)) j fresh b (at .run) (since now) r;
           pairs = inner-pairs w u j ps (at .run .holds .base) (let e = at .pairs .1 in let f = at .few in omega arith) b (at .pairs .4);
           few = let e = at .pairs .1 in let f = at .few in omega arith;
-          next = inner-onward w u m n (suc (m .trail)) j (at .run .choice) b (at .next);
-        }) (record { good = record { sound = sound-then; store = good-then; goals = good .goals; asks = good .asks; numbers = good .numbers }; within = (let f = at .run .holds .few in let g = good-then .0 in omega arith, fair .within); choices = fair .choices }))
+          next = inner-onward w u m n (suc (m .trail)) j fresh (at .run .choice) b (at .next);
+        }) un (record { good = record { sound = sound-then; store = good-then; goals = good .goals; asks = good .asks; numbers = good .numbers }; within = (let f = at .run .holds .few in let g = good-then .0 in omega arith, fair .within); choices = fair .choices }))
 
     -- a free variable is bound, or stands inside its new value
-    binds-or : (x : ℕ) (h : Held) (t : Term) {c : Pairing} {v : List ℕ} → BindChecked (X .file) (lay X) (m .units) (m .trail) j (record { 0 = x }) h w c v → x < n .cells → Free x s → IsHeld (X .rules) h t → Good (X .rules .functions) (n .cells) t
+    binds-or : (x : ℕ) (h : Held) (t : Term) (fresh : ℕ) → Unmentioned (X .rules .functions) fresh (bind x t s) ps → {c : Pairing} {v : List ℕ} → BindChecked (X .file) (lay X) (m .units) (m .trail) j fresh (record { 0 = x }) h w c v → x < n .cells → Free x s → IsHeld (X .rules) h t → Good (X .rules .functions) (n .cells) t
         → Comes v c (binding (X .rules) (X .limits) wanted room x t ps n cs d)
     unfolding binding with-binding
-    binds-or x h t (is-inside {v = v} i) l f held g =
+    binds-or x h t fresh un (is-inside {v = v} i) l f held g =
         let (e, k, mk) = insides (record { stored = stored; base = at .run .holds .base; free = f; room = at .run .holds .few; marks = marks }) h t held g i in
         subst (Comes v Differ) (sym (if-true _ _ _ (sym e))) (fails (marks-inner w v k) (kept v k mk))
-    binds-or x h t (binds {v = v} i) l f held g =
+    binds-or x h t fresh un (binds {v = v} i) l f held g =
         let (e, k, mk) = insides (record { stored = stored; base = at .run .holds .base; free = f; room = at .run .holds .few; marks = marks }) h t held g i in
-        subst (Comes _ (Same (plus (m .trail) 1) j)) (sym (if-false _ _ _ (sym e)))
-        (bound x h t v (marks-inner w v k) (kept v k mk) (f, occurs-false x _ (sym e), good .sound) (l, g, good .store) held)
+        subst (Comes _ (one-bound (m .trail) j fresh)) (sym (if-false _ _ _ (sym e)))
+        (bound x h t v fresh un (marks-inner w v k) (kept v k mk) (f, occurs-false x _ (sym e), good .sound) (l, g, good .store) held)
+
+    -- a free variable that does not stand inside its new value is bound
+    binds-unchecked : (x : ℕ) (h : Held) (t : Term) (fresh : ℕ) → Unmentioned (X .rules .functions) fresh (bind x t s) ps → occurs x (inst (value s) t) ≡ false → x < n .cells → Free x s → IsHeld (X .rules) h t → Good (X .rules .functions) (n .cells) t
+        → Comes (bound-to (lay X) (m .trail) (record { 0 = x }) h w) (one-bound (m .trail) j fresh) (binding (X .rules) (X .limits) wanted room x t ps n cs d)
+    unfolding binding
+    binds-unchecked x h t fresh un e l f held g =
+        subst (Comes _ (one-bound (m .trail) j fresh)) (sym (if-false _ _ _ e))
+        (bound x h t w fresh un unchanged (at .run .holds) (f, occurs-false x _ e, good .sound) (l, g, good .store) held)
+
+    -- a variable of the head side takes a function applied
+    binds-head : (y : ℕ) (h : Held) (t : Term) → Good (X .rules .functions) (m .fresh) t → {c : Pairing} {v : List ℕ} → BindHead (X .file) (lay X) (m .units) (m .trail) j (m .fresh) (record { 0 = y }) h w c v → y < n .cells → Free y s → IsHeld (X .rules) h t → Good (X .rules .functions) (n .cells) t
+        → Comes v c (binding (X .rules) (X .limits) wanted room y t ps n cs d)
+    binds-head y h t b (unmentioned l) = binds-unchecked y h t (m .fresh) (taken y t b) (outside (X .rules .functions) (m .fresh) s t y (fresh .bindings) b l)
+    binds-head y h t b (mentioned l c) = binds-or y h t (m .fresh) (taken y t b) c
 
     -- ---- two functions applied
     -- a function applied that is held stands as one in the rules
@@ -265,8 +284,8 @@ module _ (X : Setting) where
         go (app g us) t e = let q : f ≡ g = cc in (us, i .behind, rw q t, cc)
 
     -- the words of the work region do not matter to the rest
-    work-run : (v : List ℕ) (lo hi work : ℕ) → lay X .work ≤ lo → Keeps lo hi w v → Run X v (record { cells = m .cells; trail = m .trail; steps = m .steps; choice = m .choice; work = work; next = m .next; units = m .units }) n cs
-        × Onward X v (record { cells = m .cells; trail = m .trail; steps = m .steps; choice = m .choice; work = work; next = m .next; units = m .units }) (m .next) (n .goals)
+    work-run : (v : List ℕ) (lo hi work : ℕ) → lay X .work ≤ lo → Keeps lo hi w v → Run X v (record { cells = m .cells; trail = m .trail; steps = m .steps; choice = m .choice; work = work; fresh = m .fresh; next = m .next; units = m .units }) n cs
+        × Onward X v (record { cells = m .cells; trail = m .trail; steps = m .steps; choice = m .choice; work = work; fresh = m .fresh; next = m .next; units = m .units }) (m .next) (n .goals)
     unfolding layout-of step-word
     work-run v lo hi work l k =
         let low : (i : ℕ) → i < lay X .work → word v i ≡ word w i = λ i h. k .same i (inl (omega arith)) in
@@ -311,7 +330,7 @@ module _ (X : Setting) where
         steps-low v low (suc i) q h = let r = mod-lt q {m = 8} (omega arith) in let f = at .run .few-steps in low _ (omega arith)
 
     unchanged-fails : Comes w Differ (fail cs d)
-    unchanged-fails = fails (record { as-long = refl; tables = λ i a b. refl; above = λ i a. refl }) (at .run .holds)
+    unchanged-fails = fails unchanged (at .run .holds)
 
     pairs-length : (ts us : Terms) → count ts ≡ count us → length (pairs ts us) ≡ count ts
     unfolding pairs count
@@ -320,7 +339,7 @@ module _ (X : Setting) where
     pairs-length (t ∷ₜ ts) (u ∷ₜ us) e = ap suc (pairs-length ts us (omega arith))
 
     -- the arguments of an equal function go in front
-    module _ (f : ℕ) (ts us : Terms) (a b : Held) (ia : IsHeld (X .rules) a (app f ts)) (ib : IsHeld (X .rules) b (app f us)) (ga : Good (X .rules .functions) (n .cells) (app f ts)) (gb : Good (X .rules .functions) (n .cells) (app f us)) where
+    module _ (f : ℕ) (ts us : Terms) (a b : Held) (ia : IsHeld (X .rules) a (app f ts)) (ib : IsHeld (X .rules) b (app f us)) (ga : Good (X .rules .functions) (n .cells) (app f ts)) (gb : Good (X .rules .functions) (n .cells) (app f us)) (gf : Good (X .rules .functions) (m .fresh) (app f ts)) where
       counts : count ts ≡ count us
       counts = Option·some-injective _ _ (sym (ga .0) ∙ gb .0)
 
@@ -335,13 +354,13 @@ module _ (X : Setting) where
 
       pushes : (xs ys : Terms) → byte (X .file) (2 * f + 1) ≡ count xs → plus j (byte (X .file) (2 * f + 1)) ≡ j + count xs → ts ≡ insts (from (a .base .0)) xs → us ≡ insts (from (b .base .0)) ys
           → Pushed X w j (count xs) ps (pairs (insts (from (a .base .0)) xs) (insts (from (b .base .0)) ys)) (pushed (count xs) j (lay X) (past-kind a 3) (past-kind b 3) w) → j + count xs ≤ X .limits .work
-          → Comes (pushed (byte (X .file) (2 * f + 1)) j (lay X) (past-kind a 3) (past-kind b 3) w) (Same (m .trail) (plus j (byte (X .file) (2 * f + 1)))) (matching (X .rules) (X .limits) wanted room (pairs ts us ++ ps) n cs d)
+          → Comes (pushed (byte (X .file) (2 * f + 1)) j (lay X) (past-kind a 3) (past-kind b 3) w) (Same (m .trail) (plus j (byte (X .file) (2 * f + 1))) (m .fresh)) (matching (X .rules) (X .limits) wanted room (pairs ts us ++ ps) n cs d)
       pushes xs ys z t e g p₁ l =
           let (run, next) = work-run (pushed (count xs) j (lay X) (past-kind a 3) (past-kind b 3) w) _ _ (j + count xs) (omega arith) (p₁ .keeps) in
-          rw (t, z, e, g) (goes (m .trail) (j + count xs) (pairs (insts (from (a .base .0)) xs) (insts (from (b .base .0)) ys) ++ ps) n (record { run = run; pairs = p₁ .pairs; few = l; next = next }) fair)
+          rw (t, z, e, g) (goes (m .trail) (j + count xs) (m .fresh) (pairs (insts (from (a .base .0)) xs) (insts (from (b .base .0)) ys) ++ ps) n (record { run = run; pairs = p₁ .pairs; few = l; next = next }) (record { bindings = fresh .bindings; goals = sides-append (X .rules .functions) (m .fresh) (pairs (insts (from (a .base .0)) xs) (insts (from (b .base .0)) ys)) ps (arguments-good (X .rules .functions) (m .fresh) (insts (from (a .base .0)) xs) (insts (from (b .base .0)) ys) (rw e at (gf .1))) (fresh .goals .1) }) fair)
 
       pushed-come : plus j (byte (X .file) (2 * f + 1)) ≤ X .limits .work
-          → Comes (pushed (byte (X .file) (2 * f + 1)) j (lay X) (past-kind a 3) (past-kind b 3) w) (Same (m .trail) (plus j (byte (X .file) (2 * f + 1)))) (matching (X .rules) (X .limits) wanted room (pairs ts us ++ ps) n cs d)
+          → Comes (pushed (byte (X .file) (2 * f + 1)) j (lay X) (past-kind a 3) (past-kind b 3) w) (Same (m .trail) (plus j (byte (X .file) (2 * f + 1))) (m .fresh)) (matching (X .rules) (X .limits) wanted room (pairs ts us ++ ps) n cs d)
       unfolding past-kind
       pushed-come l =
           let (xs, bs, st, e) = held-app a f ts ia in
@@ -360,17 +379,17 @@ module _ (X : Setting) where
           let p₁ = pushed-pairs X xs ys w j (past-kind a 3) (past-kind b 3) ps (at .run .holds .base) (rw ha (of-term st)) (rw hb (of-term su)) (nx ∙ counts ∙ sym ny) (omega arith) (at .pairs .4) in
           pushes xs ys z t e g p₁ (omega arith)
 
-    functions-come : (f e : ℕ) (ts us : Terms) (a b : Held) → IsHeld (X .rules) a (app f ts) → IsHeld (X .rules) b (app e us) → Good (X .rules .functions) (n .cells) (app f ts) → Good (X .rules .functions) (n .cells) (app e us) → {c : Pairing} {v : List ℕ}
-        → Functions (X .file) (lay X) (X .limits .work) (m .trail) j f e a b w c v → Comes v c (compared (X .rules) (X .limits) wanted room (app f ts) (app e us) ps n cs d)
+    functions-come : (f e : ℕ) (ts us : Terms) (a b : Held) → IsHeld (X .rules) a (app f ts) → IsHeld (X .rules) b (app e us) → Good (X .rules .functions) (n .cells) (app f ts) → Good (X .rules .functions) (n .cells) (app e us) → Good (X .rules .functions) (m .fresh) (app f ts) → {c : Pairing} {v : List ℕ}
+        → Functions (X .file) (lay X) (X .limits .work) (m .trail) j (m .fresh) f e a b w c v → Comes v c (compared (X .rules) (X .limits) wanted room (app f ts) (app e us) ps n cs d)
     unfolding compared
-    functions-come f e ts us a b ia ib ga gb (unequal q) = subst (Comes w Differ) (sym (if-true _ _ _ (ap not (ne-eqb f e q)))) unchanged-fails
-    functions-come f e ts us a b ia ib ga gb (crowded q l) =
-        let z = longer-is f ts us a b ia (rw (← q) at ib) ga (rw (← q) at gb) in
+    functions-come f e ts us a b ia ib ga gb gf (unequal q) = subst (Comes w Differ) (sym (if-true _ _ _ (ap not (ne-eqb f e q)))) unchanged-fails
+    functions-come f e ts us a b ia ib ga gb gf (crowded q l) =
+        let z = longer-is f ts us a b ia (rw (← q) at ib) ga (rw (← q) at gb) gf in
         subst (Comes w Over) (sym (if-false _ _ _ (ap not (eq-eqb f e q)) ∙ if-true _ _ _ (lt-ltb (X .limits .work) (length (pairs ts us ++ ps)) (omega arith)))) fills
-    functions-come f e ts us a b ia ib ga gb (equal q l) =
-        let z = longer-is f ts us a b ia (rw (← q) at ib) ga (rw (← q) at gb) in
-        subst (Comes (pushed (byte (X .file) (2 * f + 1)) j (lay X) (past-kind a 3) (past-kind b 3) w) (Same (m .trail) (plus j (byte (X .file) (2 * f + 1))))) (sym (if-false _ _ _ (ap not (eq-eqb f e q)) ∙ if-false _ _ _ (le-ltb (X .limits .work) (length (pairs ts us ++ ps)) (omega arith))))
-        (pushed-come f ts us a b ia (rw (← q) at ib) ga (rw (← q) at gb) l)
+    functions-come f e ts us a b ia ib ga gb gf (equal q l) =
+        let z = longer-is f ts us a b ia (rw (← q) at ib) ga (rw (← q) at gb) gf in
+        subst (Comes (pushed (byte (X .file) (2 * f + 1)) j (lay X) (past-kind a 3) (past-kind b 3) w) (Same (m .trail) (plus j (byte (X .file) (2 * f + 1))) (m .fresh))) (sym (if-false _ _ _ (ap not (eq-eqb f e q)) ∙ if-false _ _ _ (le-ltb (X .limits .work) (length (pairs ts us ++ ps)) (omega arith))))
+        (pushed-come f ts us a b ia (rw (← q) at ib) ga (rw (← q) at gb) gf l)
 
     -- ---- the pair in all its cases
     -- a side, once it is followed
@@ -382,44 +401,48 @@ module _ (X : Setting) where
     side : (h : Held) (t : Term) → IsHeld (X .rules) h t → Good (X .rules .functions) (n .cells) t → Side (followed (m .trail) (X .file) w (lay X) h) (follow s t)
     side h t i g = record { found = follows X w (m .trail) (n .cells) s stored h t i g; well-formed = follow-good (X .rules .functions) (n .cells) s (good .store) t g; frees = λ x e. follow-free s (good .sound) t x e }
 
-    compares-come : (g h : Found) (t u : Term) → Side g t → Side h u → {c : Pairing} {v : List ℕ} → Compares (X .file) (lay X) (X .limits .work) (m .units) (m .trail) j g h w c v
+    compares-come : (g h : Found) (t u : Term) → Side g t → Side h u → Good (X .rules .functions) (m .fresh) t → {c : Pairing} {v : List ℕ} → Compares (X .file) (lay X) (X .limits .work) (m .units) (m .cells) (m .trail) j (m .fresh) g h w c v
         → Comes v c (compared (X .rules) (X .limits) wanted room t u ps n cs d)
     unfolding compared
-    compares-come g h t u a b (one-variable {x = x} {y = y} e f q) =
+    compares-come g h t u a b z (one-variable {x = x} {y = y} e f q) =
         let (k, i) = subst (λ (z : Found). FoundIs (X .rules) z t) e (a .found) in
         let (l, o) = subst (λ (z : Found). FoundIs (X .rules) z u) f (b .found) in
-        rw (k, l) (subst (Comes w (Same (m .trail) j)) (sym (if-true _ _ _ (eq-eqb (x .0) (y .0) q))) goes-same)
-    compares-come g h t u a b (head-variable {x = x} {y = y} {s = p₁} {v = v} e f q c) =
+        rw (k, l) (subst (Comes w (Same (m .trail) j (m .fresh))) (sym (if-true _ _ _ (eq-eqb (x .0) (y .0) q))) goes-same)
+    compares-come g h t u a b z (head-variable {x = x} {y = y} {s = p₁} e f q) =
         let (k, i) = subst (λ (z : Found). FoundIs (X .rules) z t) e (a .found) in
         let (l, o) = subst (λ (z : Found). FoundIs (X .rules) z u) f (b .found) in
-        rw (k, l) (subst (Comes v _) (sym (if-false _ _ _ (ne-eqb (x .0) (y .0) q))) (binds-or (y .0) p₁ (var (x .0)) c (rw l at (b .well-formed)) (b .frees (y .0) l) (rw k at i) (rw k at (a .well-formed))))
-    compares-come g h t u a b (head-free {f = f₁} {y = y} {s = p₁} e f c) =
+        rw (k, l) (subst (Comes _ _) (sym (if-false _ _ _ (ne-eqb (x .0) (y .0) q)))
+        (binds-unchecked (y .0) p₁ (var (x .0)) (m .fresh) (taken (y .0) (var (x .0)) (rw k at z)) (free-apart s (x .0) (y .0) (a .frees (x .0) k) q) (rw l at (b .well-formed)) (b .frees (y .0) l) (rw k at i) (rw k at (a .well-formed))))
+    compares-come g h t u a b z (head-free {f = f₁} {y = y} {s = p₁} e f c) =
         let (ts, k, i) = subst (λ (z : Found). FoundIs (X .rules) z t) e (a .found) in
         let (l, o) = subst (λ (z : Found). FoundIs (X .rules) z u) f (b .found) in
-        rw (k, l) (binds-or (y .0) p₁ (app f₁ ts) c (rw l at (b .well-formed)) (b .frees (y .0) l) (rw k at i) (rw k at (a .well-formed)))
-    compares-come g h t u a b (goal-free {e = e₁} {x = x} {t = p₁} e f c) =
+        rw (k, l) (binds-head (y .0) p₁ (app f₁ ts) (rw k at z) c (rw l at (b .well-formed)) (b .frees (y .0) l) (rw k at i) (rw k at (a .well-formed)))
+    compares-come g h t u a b z (goal-free {e = e₁} {x = x} {t = p₁} e f c) =
         let (k, i) = subst (λ (z : Found). FoundIs (X .rules) z t) e (a .found) in
         let (us, l, o) = subst (λ (z : Found). FoundIs (X .rules) z u) f (b .found) in
-        rw (k, l) (binds-or (x .0) p₁ (app e₁ us) c (rw k at (a .well-formed)) (a .frees (x .0) k) (rw l at o) (rw l at (b .well-formed)))
-    compares-come g h t u a b (both-applied {e = e₁} {f = f₁} {s = p₁} {t = p₂} e f c) =
+        rw (k, l) (binds-or (x .0) p₁ (app e₁ us) (m .cells)
+        (rw (at .run .cells) (all-mentioned (X .rules .functions) (n .cells) (bind (x .0) (app e₁ us) s) ps (rw k at (a .well-formed), rw l at (b .well-formed), good .store) (well .2)))
+        c (rw k at (a .well-formed)) (a .frees (x .0) k) (rw l at o) (rw l at (b .well-formed)))
+    compares-come g h t u a b z (both-applied {e = e₁} {f = f₁} {s = p₁} {t = p₂} e f c) =
         let (ts, k, i) = subst (λ (z : Found). FoundIs (X .rules) z t) e (a .found) in
         let (us, l, o) = subst (λ (z : Found). FoundIs (X .rules) z u) f (b .found) in
-        rw (k, l) (functions-come f₁ e₁ ts us p₁ p₂ (rw k at i) (rw l at o) (rw k at (a .well-formed)) (rw l at (b .well-formed)) c)
+        rw (k, l) (functions-come f₁ e₁ ts us p₁ p₂ (rw k at i) (rw l at o) (rw k at (a .well-formed)) (rw l at (b .well-formed)) (rw k at z) c)
 
     -- taking the front pair
-    takes-come : {c : Pairing} {v : List ℕ} → TakesPair (X .file) (lay X) (X .limits .work) (m .units) (m .trail) (m .work) w c v → Comes v c (take-pair (X .rules) (X .limits) wanted room p ps n cs d)
+    takes-come : {c : Pairing} {v : List ℕ} → TakesPair (X .file) (lay X) (X .limits .work) (m .units) (m .cells) (m .trail) (m .work) (m .fresh) w c v → Comes v c (take-pair (X .rules) (X .limits) wanted room p ps n cs d)
     unfolding take-pair front-of
     takes-come (no-pair e) = let f = at .pairs .1 in absurd (omega arith)
     takes-come (front {k = k} z e c) =
         compares-come (k .goal) (k .head) (follow s (p .goal-side)) (follow s (p .head-side))
         (rw (e, rest-is) (side (held-at w (lay X .work + 4 * j)) (p .goal-side) (at .pairs .2) (well .0)))
         (rw (e, rest-is) (side (held-at w (lay X .work + 4 * j + 2)) (p .head-side) (at .pairs .3) (well .1)))
+        (followed-good (X .rules .functions) (m .fresh) s (fresh .bindings) (p .goal-side) (fresh .goals .0))
         (rw rest-is at c)
 
     -- ---- the move
-    on-same : {trail work : ℕ} {v u : List ℕ} {st : State} {r : Due} → Comes v (Same trail work) st
-        → MatchesOn (X .file) (lay X) (record { cells = m .cells; trail = trail; steps = m .steps; choice = m .choice; work = work; next = m .next; units = m .units }) v r u → DueIs X u wanted room d r st
-    on-same (goes trail work qs o a f) mo = matches-on X wanted room _ _ qs o cs d mo a f units
+    on-same : {trail work fresh : ℕ} {v u : List ℕ} {st : State} {r : Due} → Comes v (Same trail work fresh) st
+        → MatchesOn (X .file) (lay X) (record { cells = m .cells; trail = trail; steps = m .steps; choice = m .choice; work = work; fresh = fresh; next = m .next; units = m .units }) v r u → DueIs X u wanted room d r st
+    on-same (goes trail work new qs o a k f) mo = matches-on X wanted room _ _ qs o cs d mo a k f units
 
     on-differ : {v u : List ℕ} {st : State} {r : Due} → Comes v Differ st → Backs (lay X) m (m .trail) (m .choice) v r u → DueIs X u wanted room d r st
     on-differ {v} (fails i rep) b =

@@ -21,6 +21,7 @@ use Rattle.laws.specs.IfLaws.{if-by, if-true, if-false}
 use Rattle.demands.specs.Proofs.{Each, WellCall, WellClause, WellFormed}
 use Rattle.demands.specs.Order.{each-at}
 use Rattle.demands.specs.StoreLaws.{Sound}
+use Rattle.demands.specs.WellLaws.{store-bindings-good}
 use Rattle.demands.specs.Ways.{todo, GoodAt, OfGoal, with-goal, step-good}
 use Rattle.demands.specs.Searches.{GoodChoice}
 use Rattle.layout.specs.Lengths.{clause-place, query-place}
@@ -40,6 +41,7 @@ use Rattle.simulation.specs.Ranges.{few-predicates, Range, in-range-is}
 use Rattle.simulation.specs.TableFrames.{tables-room}
 use Rattle.simulation.specs.Undoes.{Within, within-good}
 use Rattle.simulation.specs.States.{SoundAll, more, Fair, StoreRep, Run, TryIs, AtIs, DueIs, is-over}
+use Rattle.simulation.specs.Unmentioned.{Unmentioned, arguments-good}
 use Rattle.simulation.specs.Cutting.{matches-on}
 use Rattle.simulation.specs.Entering.{Tried, entered-at, arity-is}
 
@@ -96,16 +98,21 @@ module _ (X : Setting) (wf : WellFormed (X .rules)) (wanted room : ℕ) where
     abbrev here-place : Place
     here-place = record { 0 = clause-place (X .rules) (k .number) }
 
+    -- the fresh cells of the clause are mentioned by its head alone
+    fresh : Unmentioned (X .rules .functions) (m .cells) (n .store) (pairs (g .arguments) (over (n .cells) (k .clause .head) .arguments))
+    unfolding with-goals
+    fresh = rw (try .run .cells) (record { bindings = store-bindings-good (X .rules .functions) (n .cells) (n .store) (c .good .store); goals = arguments-good (X .rules .functions) (n .cells) (g .arguments) _ (c .good .goals .0 .terms) })
+
     -- the clause has been entered, and its pairs are matched
     entered-due : (d : Done) {r : Due} {u : List ℕ} → m .units ≡ d .units → n .cells + k .clause .variables ≤ X .limits .cells → m .steps < X .limits .steps
         → MatchesOn (X .file) (lay X) (entered-regs (X .file) (entered-words (X .file) (given-of X) t m here-place (k .clause .variables) w) (lay X) m here-place (k .clause .variables) (arity-at (X .file) (length (X .rules .functions)) (t .goal)))
         (entered-words (X .file) (given-of X) t m here-place (k .clause .variables) w) r u
         → DueIs X u wanted room d r (matching (X .rules) (X .limits) wanted room (pairs (g .arguments) (over (n .cells) (k .clause .head) .arguments)) (with-step k (length cs) n) (choice ks g n ∷ cs) d)
-    unfolding entered-words given-of entered-regs
+    unfolding entered-words given-of entered-regs with-step
     entered-due d {r} {u} un a b mo =
         let at = entered-at X w t m k ks g n cs try (tried a b) in
         matches-on X wanted room _ _ _ _ _ d (subst (λ (x : ℕ). MatchesOn (X .file) (lay X) (entered-regs (X .file) (paired (lay X) x t here-place (m .cells) (freed (k .clause .variables) (m .cells) (lay X) (step-put (lay X) t m w))) (lay X) m here-place (k .clause .variables) x)
-        (paired (lay X) x t here-place (m .cells) (freed (k .clause .variables) (m .cells) (lay X) (step-put (lay X) t m w))) r u) (arity-is X w t m k ks g n cs try (tried a b)) mo) at fair un
+        (paired (lay X) x t here-place (m .cells) (freed (k .clause .variables) (m .cells) (lay X) (step-put (lay X) t m w))) r u) (arity-is X w t m k ks g n cs try (tried a b)) mo) at fresh fair un
 
     pub tries-head : (d : Done) {r : Due} {v : List ℕ} → TriesHead (X .file) (given-of X) t m w r v → m .units ≡ d .units → DueIs X v wanted room d r (try-head (X .rules) (X .limits) wanted room k (choice ks g n) cs d)
     unfolding try-head end-number given-of

@@ -11,15 +11,21 @@ use second::call::{Case, Limits, Memory, Outcome};
 use second::cases::programs;
 use second::examples::*;
 
-const LIMITS: Limits = Limits {
-    cells: 4_000,
-    steps: 600,
-    work: 100,
-};
+const SMALL: Limits = limits(4_000, 600);
+const MEDIUM: Limits = limits(10_000, 2_500);
+const LARGE: Limits = limits(40_000, 8_000);
 const ROOM: usize = 60_000;
 const ROUNDS: usize = 40;
 /// The least time of a round, in seconds.
 const ROUND: f64 = 0.005;
+
+const fn limits(cells: u32, steps: u32) -> Limits {
+    Limits {
+        cells,
+        steps,
+        work: 100,
+    }
+}
 
 /// The time of one call in microseconds, over so many.
 fn time(calls: usize, mut call: impl FnMut()) -> f64 {
@@ -63,28 +69,40 @@ fn embedded() -> f64 {
     rounds.fold(f64::INFINITY, f64::min)
 }
 
+/// Walks in a graph of 4,094 edges: as many clauses as a file may have.
+fn large_graph() -> String {
+    let edges: Vec<_> = (0..4_094)
+        .map(|i| (i % 1_000, (i + i / 1_000 + 1) % 1_000))
+        .collect();
+    walks(&edges)
+}
+
 fn main() {
     let call = embedded();
     let second = 1e6 / call;
     println!("pegplanet_run on case A: {call:.2} us a call, {second:.0} calls a second");
     // Each with the answers it has; the second looks for more without end.
     let programs = [
-        ("naive reverse of 30", naive_reverse(30), 1),
-        ("split 12 in three", split_in_three(12), 13 * 14 / 2),
-        ("permutations of 5", permutations(5), 120),
-        ("2 to the power of 7", powers_of_two(7), 1),
-        ("bars of 6 quarters", bars(6), 169),
-        ("shared values", shared(8), 1),
+        ("naive reverse of 10", long_reverse(1), 1, SMALL),
+        ("naive reverse of 30", naive_reverse(30), 1, SMALL),
+        ("naive reverse of 60", long_reverse(6), 1, MEDIUM),
+        ("naive reverse of 120", long_reverse(12), 1, LARGE),
+        ("4,096 clauses", large_graph(), 80, SMALL),
+        ("split 12 in three", split_in_three(12), 13 * 14 / 2, SMALL),
+        ("permutations of 5", permutations(5), 120, SMALL),
+        ("2 to the power of 7", powers_of_two(7), 1, SMALL),
+        ("bars of 6 quarters", bars(6), 169, SMALL),
+        ("shared values", shared(8), 1, SMALL),
     ];
     println!(
         "program                units answers  library us  ns a unit  second us  library / second"
     );
-    for (name, text, wanted) in programs {
+    for (name, text, wanted, limits) in programs {
         let case = Case {
-            budget: 200_000,
+            budget: 1_000_000,
             wanted,
             room: ROOM,
-            ..Case::new(&file(&text), LIMITS)
+            ..Case::new(&file(&text), limits)
         };
         let outcome = match Both::default().agreed(&Call::new(case.clone())) {
             Ok(outcome) => outcome,

@@ -6,7 +6,7 @@ use Rattle.machine.proofs.run.run.Reads as reads
 use Rattle.machine.proofs.run.run.Lts as lts
 use Rattle.machine.proofs.run.ended.Reads as ended-reads
 use Rattle.machine.proofs.run.going.Reads as going-reads
-use Rattle.machine.proofs.run.one_move.Reads as one-move-reads
+use Rattle.machine.proofs.run.one_turn.Reads as one-turn-reads
 use Rattle.search.proofs.start.Reads as start-reads
 
 abbrev Inv-loop : tie.InvT-loop
@@ -28,8 +28,8 @@ going-requires : tie.Need-going-requires Inv-loop μ-loop
 going-requires c κs = search needs
 
 -- src/run.rt:225:13
-one-move-requires : tie.Need-one-move-requires Inv-loop μ-loop
-one-move-requires c κs = search needs
+one-turn-requires : tie.Need-one-turn-requires Inv-loop μ-loop
+one-turn-requires c κs = search needs
 
 -- src/run.rt:224:5
 loop-less : tie.Need-loop-less Inv-loop μ-loop
@@ -64,7 +64,7 @@ run-spec =
     start-requires
     loop-holds
     going-requires
-    one-move-requires
+    one-turn-requires
     loop-less
     loop-again
     ended-requires

@@ -1,9 +1,9 @@
 use Rattle.machine.proofs.Laws.{spend-is}
 use borrow.Author.Needs.{needs}
-use Rattle.machine.proofs.run.spend.Statement.{statement}
-use Rattle.machine.proofs.run.spend.Tie as tie
-use Rattle.machine.proofs.run.spend.Reads as reads
-use Rattle.machine.proofs.run.spend.Lts as lts
+use Rattle.machine.proofs.heads.spend.Statement.{statement}
+use Rattle.machine.proofs.heads.spend.Tie as tie
+use Rattle.machine.proofs.heads.spend.Reads as reads
+use Rattle.machine.proofs.heads.spend.Lts as lts
 use Rattle.words.proofs.add.Reads as add-reads
 
 -- src/run.rt:38:16
