@@ -18,6 +18,6 @@ int main(void) {
         puts("good");
         return 0;
     }
-    printf("refused %u at %u\n", (unsigned)pegplanet_refusal(number), (unsigned)pegplanet_place(number));
+    printf("refused %u at %u\n", (unsigned)pegplanet_number(number), (unsigned)pegplanet_place(number));
     return 1;
 }

@@ -34,9 +34,10 @@ fn reverse() {
     let rules = read(&file).expect("a good file");
     let mut out = vec![0; 10_000];
     let mut machine = Machine::default();
-    let ended = machine.run(&rules, LIMITS, u32::MAX, u32::MAX, &mut out);
+    let ended = machine.run(&rules, LIMITS, u32::MAX, u32::MAX, &mut out, &mut ());
     let run = least(20, 1_000, || {
-        black_box(machine.run(&rules, LIMITS, u32::MAX, u32::MAX, black_box(&mut out)));
+        let out = black_box(&mut out);
+        black_box(machine.run(&rules, LIMITS, u32::MAX, u32::MAX, out, &mut ()));
     });
     println!("naive reverse of 30: {ended:?}");
     println!(

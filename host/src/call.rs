@@ -47,6 +47,21 @@ pub enum Outcome {
     },
 }
 
+impl Outcome {
+    /// End or refusal, place, answers, units, bytes; 0 for what it has not.
+    pub fn words(&self) -> [u64; 5] {
+        match *self {
+            Outcome::Refused { number, place } => [number.into(), place as u64, 0, 0, 0],
+            Outcome::Ended {
+                end,
+                answers,
+                units,
+                bytes,
+            } => [end.into(), 0, answers.into(), units.into(), bytes as u64],
+        }
+    }
+}
+
 impl From<Refusal> for Outcome {
     fn from(refusal: Refusal) -> Outcome {
         Outcome::Refused {
@@ -90,7 +105,9 @@ impl Memory {
         if let Err(refusal) = read {
             return refusal.into();
         }
-        let ended = self.machine.run(&self.rules, limits, budget, wanted, out);
+        let ended = self
+            .machine
+            .run(&self.rules, limits, budget, wanted, out, &mut ());
         scratch[..limits.scratch(file.len())].fill(0);
         ended.into()
     }
@@ -110,16 +127,36 @@ fn tested(file: &[u8], limits: Limits, scratch: usize) -> Result<(), Refusal> {
     Err(Refusal { number, place: 0 })
 }
 
-/// The whole call, with memory of its own.
-pub fn call(
-    file: &[u8],
-    limits: Limits,
-    budget: u32,
-    wanted: u32,
-    scratch: &mut [u32],
-    out: &mut [u8],
-) -> Outcome {
-    Memory::default().call(file, limits, budget, wanted, scratch, out)
+/// Everything one call gets. Scratch and output are given by their lengths.
+#[derive(Clone, Debug, PartialEq, Eq)]
+pub struct Case {
+    pub file: Vec<u8>,
+    pub limits: Limits,
+    pub budget: u32,
+    pub wanted: u32,
+    pub scratch_len: usize,
+    pub room: usize,
+}
+
+impl Case {
+    /// A call with exactly the scratch that it needs, and 1,000 each for budget,
+    /// wanted number and room.
+    pub fn new(file: &[u8], limits: Limits) -> Case {
+        Case {
+            file: file.to_vec(),
+            limits,
+            budget: 1_000,
+            wanted: 1_000,
+            scratch_len: limits.scratch(file.len()),
+            room: 1_000,
+        }
+    }
+
+    /// The whole call.
+    pub fn call(&self, memory: &mut Memory, scratch: &mut [u32], out: &mut [u8]) -> Outcome {
+        let (limits, budget, wanted) = (self.limits, self.budget, self.wanted);
+        memory.call(&self.file, limits, budget, wanted, scratch, out)
+    }
 }
 
 /// The limits of the embedded form.
@@ -144,52 +181,34 @@ fn embedded_call(file: &[u8], budget: u32, wanted: u32, out: &mut [u8]) -> Outco
     }
     let mut scratch = [0; EMBEDDED_SCRATCH];
     let room = out.len().min(EMBEDDED_ROOM);
-    call(
-        file,
-        EMBEDDED,
-        budget,
-        wanted,
-        &mut scratch,
-        &mut out[..room],
-    )
+    let (memory, out) = (&mut Memory::default(), &mut out[..room]);
+    memory.call(file, EMBEDDED, budget, wanted, &mut scratch, out)
 }
 
 /// The embedded form: end or refusal in the upper half; in the lower the
 /// bytes written after an end, the place after a refusal.
 pub fn embedded(file: &[u8], budget: u32, wanted: u32, out: &mut [u8]) -> u64 {
-    let (upper, lower) = match embedded_call(file, budget, wanted, out) {
-        Outcome::Refused { number, place } => (number, place),
-        Outcome::Ended { end, bytes, .. } => (end, bytes),
-    };
-    u64::from(upper) << 32 | lower as u64
+    let [number, place, .., bytes] = embedded_call(file, budget, wanted, out).words();
+    number << 32 | if number < 20 { place } else { bytes }
 }
 
 /// The small program: its line, and then the answer bytes.
 pub fn program(file: &[u8]) -> Vec<u8> {
     let mut out = [0; 1_000];
     let outcome = embedded_call(file, 1_000, 1_000, &mut out);
-    let mut printed = line(&outcome).into_bytes();
-    if let Outcome::Ended { bytes, .. } = outcome {
-        printed.extend_from_slice(&out[..bytes]);
-    }
-    printed
+    let [.., bytes] = outcome.words();
+    [line(&outcome).as_bytes(), &out[..bytes as usize]].concat()
 }
 
 /// The program's line, closed by byte 0A.
 pub fn line(outcome: &Outcome) -> String {
-    match outcome {
-        Outcome::Refused { number, place } => format!("refused {number} at {place}\n"),
-        Outcome::Ended {
-            end,
-            answers,
-            units,
-            bytes,
-        } => {
-            let small = match end {
-                23..=25 => " limits too small",
-                _ => "",
-            };
-            format!("end {end} answers {answers} units {units} bytes {bytes}{small}\n")
-        }
+    let [number, place, answers, units, bytes] = outcome.words();
+    let small = match number {
+        23..=25 => " limits too small",
+        _ => "",
+    };
+    match number {
+        ..20 => format!("refused {number} at {place}\n"),
+        _ => format!("end {number} answers {answers} units {units} bytes {bytes}{small}\n"),
     }
 }

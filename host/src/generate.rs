@@ -6,7 +6,7 @@
 //! below or just above some of them.
 
 use crate::assemble::{program, Program};
-use crate::call::Limits;
+use crate::call::{Case, Limits};
 use crate::damage::{at_limit, damage, levels};
 use crate::end::End;
 use crate::examples::*;
@@ -14,17 +14,6 @@ use crate::machine::{Machine, Watch};
 use crate::random::Random;
 use crate::random_programs::*;
 use crate::reading::read;
-
-/// Everything one call gets. Scratch and output are given by their lengths.
-#[derive(Clone, Debug, PartialEq, Eq)]
-pub struct Case {
-    pub file: Vec<u8>,
-    pub limits: Limits,
-    pub budget: u32,
-    pub wanted: u32,
-    pub scratch_len: usize,
-    pub room: usize,
-}
 
 /// The case of a seed.
 pub fn case(seed: u64) -> Case {
@@ -162,7 +151,7 @@ fn probe(random: &mut Random, file: &[u8]) -> Peaks {
     let mut peaks = Peaks::default();
     if let Ok(rules) = read(file) {
         let mut machine = Machine::default();
-        let ended = machine.run_watched(&rules, ample, budget, wanted, &mut room, &mut peaks);
+        let ended = machine.run(&rules, ample, budget, wanted, &mut room, &mut peaks);
         peaks.units = ended.units;
         peaks.finished = ended.end == End::NoMoreAnswers;
     }

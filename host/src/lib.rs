@@ -13,13 +13,15 @@
 //!
 //! Beside them stand the makers of rule files: `assemble` (bytes from trees
 //! and from a text form), `examples` and `random_programs` (good files),
-//! `damage` (bad ones), and `generate` (whole cases for comparisons).
+//! `damage` (bad ones), and `generate` (whole cases for comparisons). `cases`
+//! reads the stored table of document 01's own cases.
 
 #![forbid(unsafe_code)]
 
 pub mod answer;
 pub mod assemble;
 pub mod call;
+pub mod cases;
 pub mod cells;
 pub mod damage;
 pub mod end;

@@ -72,20 +72,8 @@ pub struct Ended {
 }
 
 impl Machine {
-    /// Runs the query of the rules.
-    pub fn run(
-        &mut self,
-        rules: &Rules,
-        limits: Limits,
-        budget: u32,
-        wanted: u32,
-        out: &mut [u8],
-    ) -> Ended {
-        self.run_watched(rules, limits, budget, wanted, out, &mut ())
-    }
-
-    /// Runs the query, and lets someone watch.
-    pub fn run_watched<W: Watch>(
+    /// Runs the query of the rules, and lets someone watch.
+    pub fn run<W: Watch>(
         &mut self,
         rules: &Rules,
         limits: Limits,

@@ -4,8 +4,8 @@ mod common;
 
 use common::*;
 use second::assemble::file;
-use second::call::{call, embedded, Limits, Memory, Outcome};
-use second::generate::{case, Case};
+use second::call::{embedded, Case, Limits, Memory, Outcome};
+use second::generate::case;
 
 const APPEND: &str = "app([],L,L). app([H|T],L,[H|R]) :- app(T,L,R). ?- app(X,Y,[a]).";
 
@@ -13,14 +13,8 @@ const APPEND: &str = "app([],L,L). app([H|T],L,[H|R]) :- app(T,L,R). ?- app(X,Y,
 fn filled(case: &Case, more: usize) -> (Outcome, Vec<u32>, Vec<u8>) {
     let mut scratch = vec![0xABCD_1234; case.scratch_len + more];
     let mut out = vec![0x5A; case.room + more];
-    let outcome = call(
-        &case.file,
-        case.limits,
-        case.budget,
-        case.wanted,
-        &mut scratch[..case.scratch_len],
-        &mut out[..case.room],
-    );
+    let (given_scratch, given_out) = (&mut scratch[..case.scratch_len], &mut out[..case.room]);
+    let outcome = case.call(&mut Memory::default(), given_scratch, given_out);
     (outcome, scratch, out)
 }
 
@@ -35,7 +29,7 @@ fn an_end_wipes_the_needed_scratch_and_leaves_the_rest() {
     let needed = 64 + 2 * 70 + 4 * 10 + 8 * 2 + 4 * 8;
     let mut scratch = vec![7; needed + 5];
     let mut out = [9; 50];
-    let outcome = call(&file, limits, 18, 9, &mut scratch, &mut out);
+    let outcome = Memory::default().call(&file, limits, 18, 9, &mut scratch, &mut out);
     assert_eq!(
         outcome,
         Outcome::Ended {
@@ -55,7 +49,8 @@ fn an_answer_that_does_not_fit_leaves_no_byte() {
     let file = file(APPEND);
     let mut scratch = vec![7; AMPLE.scratch(file.len())];
     let mut out = [9; 44];
-    let outcome = call(&file, AMPLE, 100, 9, &mut scratch, &mut out);
+    let mut memory = Memory::default();
+    let outcome = memory.call(&file, AMPLE, 100, 9, &mut scratch, &mut out);
     assert_eq!(
         outcome,
         Outcome::Ended {
@@ -67,7 +62,7 @@ fn an_answer_that_does_not_fit_leaves_no_byte() {
     );
     assert_eq!(out[21..], [9; 23]);
     let mut out = [9; 20];
-    call(&file, AMPLE, 100, 9, &mut scratch, &mut out);
+    memory.call(&file, AMPLE, 100, 9, &mut scratch, &mut out);
     assert_eq!(out, [9; 20]);
 }
 
@@ -121,14 +116,7 @@ fn memory_used_again_and_scratch_at_entry_change_nothing() {
         let (outcome, _, filled_out) = filled(&case, 0);
         let mut scratch = vec![0; case.scratch_len];
         let mut out = vec![0x5A; case.room];
-        let Case {
-            file,
-            limits,
-            budget,
-            wanted,
-            ..
-        } = &case;
-        let again = memory.call(file, *limits, *budget, *wanted, &mut scratch, &mut out);
+        let again = case.call(&mut memory, &mut scratch, &mut out);
         assert_eq!((again, out), (outcome, filled_out), "seed {seed}");
     }
 }

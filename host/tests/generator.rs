@@ -3,7 +3,7 @@
 
 use std::collections::HashSet;
 
-use second::call::{Memory, Outcome};
+use second::call::{Case, Memory, Outcome};
 use second::generate::case;
 
 #[test]
@@ -24,12 +24,7 @@ fn every_end_and_every_refusal_comes_often() {
         let case = case(seed);
         let mut scratch = vec![1; case.scratch_len];
         let mut out = vec![1; case.room];
-        let (limits, budget, wanted) = (case.limits, case.budget, case.wanted);
-        let outcome = memory.call(&case.file, limits, budget, wanted, &mut scratch, &mut out);
-        let number = match outcome {
-            Outcome::Refused { number, .. } => number,
-            Outcome::Ended { end, .. } => end,
-        };
+        let [number, ..] = case.call(&mut memory, &mut scratch, &mut out).words();
         counts[number as usize] += 1;
     }
     for number in (1..=9).chain(20..=26) {
@@ -43,21 +38,13 @@ fn many_budgets_stand_one_below_a_threshold() {
     let mut memory = Memory::default();
     let mut changes = 0;
     for seed in 0..5_000 {
-        let case = case(seed);
+        let mut case = case(seed);
         let mut scratch = vec![1; case.scratch_len];
         let mut out = vec![1; case.room];
-        let mut ending = |budget| {
-            memory.call(
-                &case.file,
-                case.limits,
-                budget,
-                case.wanted,
-                &mut scratch,
-                &mut out,
-            )
-        };
-        if let Outcome::Ended { end: 22, .. } = ending(case.budget) {
-            let more = ending(case.budget + 1);
+        let mut ending = |case: &Case| case.call(&mut memory, &mut scratch, &mut out);
+        if let Outcome::Ended { end: 22, .. } = ending(&case) {
+            case.budget += 1;
+            let more = ending(&case);
             changes += usize::from(!matches!(more, Outcome::Ended { end: 22, .. }));
         }
     }

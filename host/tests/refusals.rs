@@ -4,7 +4,8 @@
 mod common;
 
 use common::*;
-use second::call::{call, Limits, Outcome};
+use second::call::{Limits, Memory, Outcome};
+use second::cases::bytes;
 use second::damage;
 use second::end::Refusal;
 use second::reading::{check, read};
@@ -28,7 +29,7 @@ fn good(text: &str) -> bool {
 /// A call with these limits, a file of this length and so much scratch.
 fn before_reading(limits: Limits, file: usize, scratch: usize) -> Outcome {
     let file = vec![0; file];
-    call(&file, limits, 1, 1, &mut vec![0; scratch], &mut [])
+    Memory::default().call(&file, limits, 1, 1, &mut vec![0; scratch], &mut [])
 }
 
 fn refusal(number: u32) -> Outcome {
@@ -41,7 +42,7 @@ fn limits_out_of_range_are_1() {
     let file = bytes("08 00 00 09");
     let run = |cells, steps, work| {
         let limits = Limits { cells, steps, work };
-        call(&file, limits, 1, 1, &mut vec![0; words], &mut [0; 6])
+        Memory::default().call(&file, limits, 1, 1, &mut vec![0; words], &mut [0; 6])
     };
     let good = Outcome::Ended {
         end: 21,

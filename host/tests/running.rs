@@ -8,6 +8,7 @@ use std::time::{Duration, Instant};
 use common::*;
 use second::assemble::file;
 use second::call::Limits;
+use second::cases::bytes;
 use second::examples;
 
 /// The end, answers and units of a text's program.

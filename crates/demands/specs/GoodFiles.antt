@@ -2,7 +2,7 @@
 -- Assumes nothing.
 use Prim.Native.Nat.{ℕ, zero, suc, _+_, _≤_, _<_}
 use mathlib.Core.Path.{_≡_, refl, ap, sym, subst, _∙_}
-use mathlib.Core.Bool.{Bool, true, false, _&&_, false≢true}
+use mathlib.Core.Bool.{Bool, true, false, _&&_}
 use mathlib.Core.List.{List, [], _∷_, _++_}
 use mathlib.Core.Option.{some}
 use native.Mathlib.Omega.{arith}
@@ -15,19 +15,11 @@ use Rattle.meaning.specs.Kinds.{a-function, a-predicate, a-clause, a-query, lev
 use Rattle.meaning.specs.Rules.{Call, Goal, call, cut, Clause, Rules}
 use Rattle.meaning.specs.Reading.{Read, refused, read, Reader, after, _>>=_, _>>_, give, refuse, need, terms, goals, term-due, goal-due, item-due}
 use Rattle.meaning.specs.Reading.{byte, next, variable, applied, term, arguments, called, goal, clause, query, items, parse}
-use Rattle.laws.specs.IfLaws.{if-by}
+use Rattle.laws.specs.IfLaws.{if-by, and-left, and-right}
 use Rattle.demands.specs.Proofs.{Each, Well, Wells, calls, WellCall, WellClause, WellFormed}
 use Rattle.demands.specs.Demands.{Says, GoodFilesAreWellFormed}
 
--- ---- tests
-and-left : (a b : Bool) → (a && b) ≡ true → a ≡ true
-and-left true b e = refl
-and-left false b e = e
-
-and-right : (a b : Bool) → (a && b) ≡ true → b ≡ true
-and-right true b e = e
-and-right false b e = absurd (false≢true e)
-
+-- ---- indices
 -- a number below the length is an index
 index-known : (l : List ℕ) (i : ℕ) → i < length l → getElem? l i ≡ some (getD l i 0)
 index-known [] i h = absurd (omega arith)

@@ -1,7 +1,7 @@
--- Taking a choice by its test.
+-- Taking a choice by its test, and tests that are made of two.
 -- Assumes nothing.
 use mathlib.Core.Path.{_≡_, refl}
-use mathlib.Core.Bool.{Bool, true, false}
+use mathlib.Core.Bool.{Bool, true, false, _&&_}
 use Rattle.meaning.specs.If.{if_then_else_}
 
 -- what holds of each branch where its test has come out so holds of the choice
@@ -15,3 +15,22 @@ if-true b x y e = if-by (λ z. z ≡ x) b (λ p. refl) (λ p. cc)
 
 pub if-false {ℓ} : {A : Type ℓ} (b : Bool) (x y : A) → b ≡ false → (if b then x else y) ≡ y
 if-false b x y e = if-by (λ z. z ≡ y) b (λ p. cc) (λ p. refl)
+
+pub and-left : (a b : Bool) → (a && b) ≡ true → a ≡ true
+and-left true b e = refl
+and-left false b e = e
+
+pub and-right : (a b : Bool) → (a && b) ≡ true → b ≡ true
+and-right true b e = e
+and-right false b e = cc
+
+pub and-false-left : (a b : Bool) → a ≡ false → (a && b) ≡ false
+and-false-left a b p = rw p
+
+-- three tests, of which the last two are taken together
+pub and-all : (a b c : Bool) → a ≡ true → (b && c) ≡ true → (a && b && c) ≡ true
+and-all a b c p q = rw p q
+
+pub and-last : (a b c : Bool) → (b && c) ≡ false → (a && b && c) ≡ false
+and-last true b c q = q
+and-last false b c q = refl

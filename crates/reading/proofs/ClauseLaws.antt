@@ -22,7 +22,7 @@ use Rattle.reading.specs.declared.step.Step.{Step}
 use Rattle.reading.specs.declared.step.Step.the-variants.{Refused, Next}
 use Rattle.reading.specs.declared.term.Arity.{Arity}
 use Rattle.reading.specs.declared.term.Arity.the-variants.{Unknown, Of}
-use Rattle.reading.proofs.IfLaws.{and-all, and-last, and-false-left}
+use Rattle.laws.specs.IfLaws.{and-all, and-last, and-false-left}
 use Rattle.reading.proofs.StepLaws.{after-refused, after-next, after-give, after-same, Found, next-found, next-due, only-eqb}
 use Rattle.reading.proofs.TermLaws.{Known, arity-of, arity-none}
 

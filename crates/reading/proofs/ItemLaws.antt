@@ -15,7 +15,7 @@ use Rattle.meaning.specs.Reading.{Read, refused, read, Reader, after, _>>=_, _>
 use Rattle.meaning.specs.Reading.{byte, next, clause, query, items}
 use Rattle.reading.specs.Verdict.{verdict}
 use Rattle.reading.specs.Steps.{only, declared, clause-after, last}
-use Rattle.reading.proofs.IfLaws.{if-by}
+use Rattle.laws.specs.IfLaws.{if-by}
 use Rattle.reading.proofs.StepLaws.{Found, Looked, lost, found, look, next-due, only-eqb}
 
 -- ---- what has appeared before a clause or query does not matter

@@ -1,4 +1,3 @@
-mod IfLaws
 mod StepLaws
 mod TermLaws
 mod ClauseLaws

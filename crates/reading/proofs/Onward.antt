@@ -11,7 +11,7 @@ use Rattle.meaning.specs.Rules.{Goal}
 use Rattle.meaning.specs.Reading.{Read, refused, read, Reader, after, _>>=_, _>>_, give, refuse, need, terms, goals, none-seen, all-seen, term-due, goal-due}
 use Rattle.meaning.specs.Reading.{next, variable, applied, term, arguments, called, goal, clause}
 use Rattle.reading.specs.Steps.{only, clause-after}
-use Rattle.reading.proofs.IfLaws.{if-by}
+use Rattle.laws.specs.IfLaws.{if-by}
 use Rattle.reading.proofs.StepLaws.{Looked, lost, found, look}
 
 here : (n : ℕ) → n ≤ n

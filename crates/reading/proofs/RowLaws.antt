@@ -21,7 +21,7 @@ use Rattle.reading.specs.declared.step.Step.the-variants.{Refused, Next}
 use Rattle.reading.specs.declared.row.Row.the-variants.{Of}
 use Rattle.reading.specs.declared.Checked.{Checked}
 use Rattle.reading.specs.declared.Checked.the-variants.{Refused as RefusedFor}
-use Rattle.reading.proofs.IfLaws.{and-left}
+use Rattle.laws.specs.IfLaws.{and-left}
 use Rattle.reading.proofs.StepLaws.{Came, came-refused, came-next, after-refused, Found, Looked, lost, found, look, next-found, only-eqb, byte-past}
 use Rattle.reading.proofs.TermLaws.{arities-length, arities-more}
 use Rattle.reading.proofs.Onward.{Onward, onward-read, clause-after-on}

@@ -15,7 +15,7 @@ use Rattle.reading.specs.Verdict.{place}
 use Rattle.reading.specs.Steps.{step, any, either, only}
 use Rattle.reading.specs.declared.step.Step.{Step}
 use Rattle.reading.specs.declared.step.Step.the-variants.{Refused, Next}
-use Rattle.reading.proofs.IfLaws.{if-true, if-false}
+use Rattle.laws.specs.IfLaws.{if-true, if-false}
 
 -- ---- readers
 -- where a step comes to, there the reader does

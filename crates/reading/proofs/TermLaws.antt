@@ -22,7 +22,7 @@ use Rattle.reading.specs.declared.step.Step.{Step}
 use Rattle.reading.specs.declared.step.Step.the-variants.{Refused, Next}
 use Rattle.reading.specs.declared.term.Arity.{Arity}
 use Rattle.reading.specs.declared.term.Arity.the-variants.{Unknown, Of}
-use Rattle.reading.proofs.IfLaws.{if-true, if-false}
+use Rattle.laws.specs.IfLaws.{if-true, if-false}
 use Rattle.reading.proofs.StepLaws.{after-refused, after-next, after-give, Found, next-found}
 
 -- ---- arities

@@ -24,7 +24,7 @@ use Rattle.simulation.specs.Asides.{aside-work, base-aside}
 use Rattle.simulation.specs.Pieces.{joined, joined-count}
 use Rattle.simulation.specs.Ranges.{in-range-is}
 use Rattle.simulation.specs.Going.{ahead-small}
-use Rattle.simulation.specs.Pushing.{plus-small}
+use Rattle.simulation.specs.Pushing.{plus-small, after-term-word}
 
 -- there are no more terms than bytes
 pub count-short : (ts : Terms) → count ts ≤ terms-length ts
@@ -32,11 +32,6 @@ unfolding count term-length
 count-short []ₜ = omega arith
 count-short (var x ∷ₜ ts) = let h = count-short ts in omega arith
 count-short (app f us ∷ₜ ts) = let h = count-short ts in omega arith
-
-after-term : (w : List ℕ) (p : ℕ) (t : Term) → AfterTerm w p t → word w (after-at p) ≡ p + term-length t
-unfolding term-length
-after-term w p (var x) a = a
-after-term w p (app f ts) a = a .0
 
 module _ (X : Setting) where
   -- these terms are due, the first of them foremost
@@ -91,7 +86,7 @@ module _ (X : Setting) where
       let file : length (X .file) ≤ 60_000 = X .short in
       let long : needed (length (X .file)) (X .limits) ≤ length w = base .long in
       let base′ : Base X v = base-aside X (aside-work X (lay X .work + 2 * i + 2) (keeps-wider _ _ (lay X .work) _ w v (omega arith) (omega arith) (due-keeps i p b w))) base in
-      let next : word v (ahead 64 p) ≡ p + term-length u = ap (word v) (ahead-small 64 p (omega arith)) ∙ after-term v p u (terms-after X v (base′ .tabled) a .0) in
+      let next : word v (ahead 64 p) ≡ p + term-length u = ap (word v) (ahead-small 64 p (omega arith)) ∙ after-term-word X v p u (terms-after X v (base′ .tabled) a .0) in
       let u₁ : List ℕ = arguments-put (count us) (count ts) b (p + term-length u) (lay X) v in
       let k : Keeps (lay X .work + 2 * count ts) (lay X .work + 2 * i) v u₁ = arguments-keep (count us) (count ts) b (p + term-length u) v (omega arith) in
       let c : count (joined (insts (from b) us) ts) ≡ i = joined-count (insts (from b) us) ts ∙ (let z = count-insts (from b) us in omega arith) in

@@ -35,6 +35,7 @@ use Rattle.cells.specs.declared.Hop.the-variants.{Stop, Go}
 use Rattle.simulation.specs.Places.{IsHeld}
 use Rattle.simulation.specs.Rep.{Setting, lay, StoreIs, FreeIs, bindings}
 use Rattle.simulation.specs.PlaceLaws.{terms-stand}
+use Rattle.simulation.specs.Undoes.{store-bindings}
 
 -- ---- the bindings of a store
 -- the cell y was bound to v
@@ -246,11 +247,6 @@ pub record Stored (X : Setting) (w : List ℕ) (k n : ℕ) (s : Store) : Type 0 
   pub good : GoodStore (X .rules .functions) n s
   pub few : n ≤ 60_000
 
-pub store-counts : (X : Setting) (w : List ℕ) (k : ℕ) (s : Store) → StoreIs X w k s → k ≡ bindings s
-unfolding bindings
-store-counts X w k empty h = h
-store-counts X w k (bind x u s) h = h .1 ∙ ap suc (store-counts X w (h .0) s (h .4))
-
 -- a bound cell holds the term it was bound to
 pub store-bound : (X : Setting) (w : List ℕ) (k : ℕ) (s : Store) (y : ℕ) (v : Term) → StoreIs X w k s → Binds y v s → (h : Held) × (cell-at w (lay X) y ≡ Bound h) × IsHeld (X .rules) h v
 store-bound X w k _ y v h newest = h .3
@@ -323,6 +319,6 @@ module _ (X : Setting) (w : List ℕ) (k n : ℕ) (s : Store) (c : Stored X w k 
 
   pub follows : (h : Held) (t : Term) → IsHeld (X .rules) h t → Good (X .rules .functions) n t → FoundIs (X .rules) (followed k (X .file) w (lay X) h) (follow s t)
   follows h t i g =
-      let e : k ≡ bindings s = store-counts X w k s (c .is) in
+      let e : k ≡ bindings s = store-bindings X w k s (c .is) in
       let l : hops s t ≤ bindings s = hops-few s (c .sound) t in
       follows-within k h t i g (omega arith)

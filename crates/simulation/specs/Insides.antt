@@ -32,7 +32,8 @@ use Rattle.cells.specs.declared.Seen.{Seen}
 use Rattle.simulation.specs.Places.{IsHeld}
 use Rattle.simulation.specs.Rep.{Setting, layout-of, lay, Base, StoreIs, MarksAre, bindings}
 use Rattle.simulation.specs.PlaceLaws.{terms-stand, terms-end, terms-after}
-use Rattle.simulation.specs.Follows.{Binds, newest, before, free-or-bound, bound-not-free, bound-few, bindings-few, Stored, store-counts, store-bound, bound-good}
+use Rattle.simulation.specs.Undoes.{store-bindings}
+use Rattle.simulation.specs.Follows.{Binds, newest, before, free-or-bound, bound-not-free, bound-few, bindings-few, Stored, store-bound, bound-good}
 
 -- ---- variables of an instance
 mutual
@@ -114,7 +115,7 @@ binds-same w (before a) (before b) = binds-same (w .2) a b
 -- no more cells are bound than are taken
 pub stored-few : {X : Setting} {w : List ℕ} {k n : ℕ} {s : Store} → Stored X w k n s → k ≤ n
 stored-few {X} {w} {k} {n} {s} c =
-    let a : k ≡ bindings s = store-counts X w k s (c .is) in
+    let a : k ≡ bindings s = store-bindings X w k s (c .is) in
     let b : bindings s ≤ n = bindings-few _ n s (c .sound) (c .good) in
     omega arith
 
@@ -223,7 +224,7 @@ module _ (X : Setting) (w : List ℕ) (k n : ℕ) (s : Store) (x stamp : ℕ) (q
   -- different cells, all bound, are no more than the trail says
   listing-few : (m : ℕ) (f : ℕ → ℕ) → ((j : ℕ) → j < m → ¬ Free (f j) s) → ((i j : ℕ) → i < m → j < m → f i ≡ f j → i ≡ j) → m ≤ k
   listing-few m f h d =
-      let a : k ≡ bindings s = store-counts X w k s (q .stored .is) in
+      let a : k ≡ bindings s = store-bindings X w k s (q .stored .is) in
       let b : m ≤ bindings s = bound-few s m f h d in
       omega arith
 

@@ -100,7 +100,7 @@ module _ (X : Setting) where
   )
 
   -- ---- the pairs of arguments go in front
-  after-term-word : (w : List ℕ) (p : ℕ) (t : Term) → AfterTerm w p t → word w (after-at p) ≡ p + term-length t
+  pub after-term-word : (w : List ℕ) (p : ℕ) (t : Term) → AfterTerm w p t → word w (after-at p) ≡ p + term-length t
   unfolding term-length
   after-term-word w p (Term.var x) a = a
   after-term-word w p (Term.app f ts) a = a .0

@@ -11,6 +11,7 @@ use borrow.Author.Tests.{leb-true}
 use Rattle.meaning.specs.Kinds.{file-limit, arity-limit}
 use Rattle.meaning.specs.Moves.{Limits}
 use Rattle.meaning.specs.Call.{in-range, needed}
+use Rattle.laws.specs.IfLaws.{and-left, and-right}
 use Rattle.demands.specs.Order.{each-at}
 use Rattle.demands.specs.GoodFiles.{good-files-have-small-arities}
 use Rattle.simulation.specs.Rep.{Setting}
@@ -22,8 +23,7 @@ pub record Range (L : Limits) : Type 0 where
   pub few-work : L .work ≤ 60000
 
 and-both : (a b : Bool) → (a && b) ≡ true → (a ≡ true) × (b ≡ true)
-and-both true b e = (refl, e)
-and-both false b e = let z : _≡_ {A = ℕ} 0 1 = cc in absurd (omega arith)
+and-both a b e = (and-left a b e, and-right a b e)
 
 pub in-range-is : (L : Limits) → in-range L ≡ true → Range L
 unfolding in-range

@@ -16,19 +16,17 @@ use Rattle.demands.specs.GoodFiles.{index-less}
 use Rattle.demands.specs.Order.{each-map, clauses-known}
 use Rattle.layout.specs.Lengths.{term-length, terms-length, goal-length, goals-length, head-length, clause-length, clause-place, query-place}
 use Rattle.layout.specs.Standing.{StandsRules, StandsClause}
-use Rattle.layout.specs.Stood.{good-files-stand, good-files-fit}
+use Rattle.layout.specs.Stood.{good-files-fit}
 use Rattle.layout.specs.Regions.{word, Keeps, after-at, first-at}
 use Rattle.layout.specs.Tables.{AfterTerm, AfterTerms, AfterGoal, AfterGoals, AfterClause, Chain, Tabled}
 use Rattle.tables.specs.Stood.{tables-fit}
 use Rattle.simulation.specs.Rep.{Setting, lay, layout-of, Base}
+use Rattle.simulation.specs.PlaceLaws.{rules-stand}
 use Rattle.simulation.specs.Frames.{SameTables, clause-words-same}
 
 module _ (X : Setting) where
-  pub stands : StandsRules (X .file) (X .rules)
-  stands = good-files-stand (X .file) (X .rules) (X .seen) (X .end) (X .good)
-
   pub tables-room : length (X .rules .predicates) + 2 * length (X .rules .clauses) ≤ length (X .file)
-  tables-room = tables-fit (X .file) (X .rules) stands (good-files-fit (X .file) (X .rules) (X .seen) (X .end) (X .good))
+  tables-room = tables-fit (X .file) (X .rules) (rules-stand X) (good-files-fit (X .file) (X .rules) (X .seen) (X .end) (X .good))
 
   module _ (w v : List ℕ) (e : SameTables X w v) where
     abbrev F : ℕ
@@ -62,8 +60,8 @@ module _ (X : Setting) where
 
     pub tabled-same : Tabled F (X .rules) w → Tabled F (X .rules) v
     tabled-same t = record {
-      clauses = λ k c q. clause-same (clause-place (X .rules) k) c (stands .clauses k c q .ends) (t .clauses k c q);
-      query = goals-after-same (X .rules .query) (query-place (X .rules) + 3) (let h = stands .ends in omega arith) (t .query);
+      clauses = λ k c q. clause-same (clause-place (X .rules) k) c (rules-stand X .clauses k c q .ends) (t .clauses k c q);
+      query = goals-after-same (X .rules .query) (query-place (X .rules) + 3) (let h = rules-stand X .ends in omega arith) (t .query);
       chains = λ q a h. chain q a h;
     }
       where

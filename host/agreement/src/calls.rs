@@ -4,9 +4,9 @@
 //! filled with a pattern first: what a call must leave as it was still holds
 //! the pattern afterwards.
 
-use second::call::{embedded, Limits, Memory, Outcome};
+use second::call::{embedded, Case, Limits, Memory, Outcome};
 use second::damage::damage;
-use second::generate::{case, good_program, Case, Peaks};
+use second::generate::{case, good_program, Peaks};
 use second::machine::Machine;
 use second::random::Random;
 use second::reading::read;
@@ -103,7 +103,7 @@ pub fn thresholds(file: &[u8], budget: u32, wanted: u32) -> Vec<Call> {
     let mut peaks = Peaks::default();
     let mut room = vec![0; 3_000];
     let mut machine = Machine::default();
-    let ended = machine.run_watched(&rules, limits, budget, wanted, &mut room, &mut peaks);
+    let ended = machine.run(&rules, limits, budget, wanted, &mut room, &mut peaks);
     limits = Limits {
         cells: peaks.cells.clamp(1, limits.cells),
         steps: peaks.steps.clamp(1, limits.steps),
@@ -195,28 +195,19 @@ impl Both {
         let bytes = |place| filling(*pattern, place) as u8;
         let numbers = |place| filling(*pattern, place);
 
-        let file = case.file.clone();
+        let given = case.clone();
         self.second_scratch.clear();
         self.second_scratch.resize(case.scratch_len, 1);
         self.second_out.clear();
         self.second_out.resize(case.room, 1);
-        let second = self.memory.call(
-            &file,
-            case.limits,
-            case.budget,
-            case.wanted,
-            &mut self.second_scratch,
-            &mut self.second_out,
-        );
+        let (scratch, out) = (&mut self.second_scratch, &mut self.second_out);
+        let second = given.call(&mut self.memory, scratch, out);
 
         fill(&mut self.scratch, case.scratch_len, words);
         fill(&mut self.out, case.room, bytes);
         fill(&mut self.result, call.words, numbers);
         call_parts(
-            &file,
-            case.limits,
-            case.budget,
-            case.wanted,
+            &given,
             Part::new(&mut self.scratch, GUARD..GUARD + case.scratch_len),
             Part::new(&mut self.out, GUARD..GUARD + case.room),
             Part::new(&mut self.result, GUARD..GUARD + call.words),
@@ -234,7 +225,7 @@ impl Both {
         });
         let (wiped, written) = match second {
             Outcome::Refused { .. } => (0, 0),
-            Outcome::Ended { bytes, .. } => (case.limits.scratch(file.len()), bytes),
+            Outcome::Ended { bytes, .. } => (case.limits.scratch(case.file.len()), bytes),
         };
         let scratch = wrong(&self.scratch, |place| match place.checked_sub(GUARD) {
             Some(word) if word < wiped => 0,
@@ -249,7 +240,7 @@ impl Both {
                 return Err(format!("{name} is wrong at {place} after {second:?}"));
             }
         }
-        match file == case.file {
+        match given == *case {
             true => Ok(second),
             false => Err(format!("the file was changed before {second:?}")),
         }
@@ -294,20 +285,7 @@ impl Both {
 /// An outcome in the twelve words of a result.
 pub fn told(outcome: &Outcome) -> [u64; WORDS] {
     let mut words = [0; WORDS];
-    match *outcome {
-        Outcome::Refused { number, place } => {
-            words[..2].copy_from_slice(&[number.into(), place as u64]);
-        }
-        Outcome::Ended {
-            end,
-            answers,
-            units,
-            bytes,
-        } => {
-            let all = [end.into(), 0, answers.into(), units.into(), bytes as u64];
-            words[..5].copy_from_slice(&all);
-        }
-    }
+    words[..5].copy_from_slice(&outcome.words());
     words
 }
 

@@ -7,9 +7,11 @@
 //! - `library`: the library's functions, behind safe ones;
 //! - `files`: files from seeds, and long files of several kinds;
 //! - `compare`: both on one file, and on many;
-//! - `calls`: calls from seeds and at thresholds, and both on one call.
+//! - `calls`: calls from seeds and at thresholds, and both on one call;
+//! - `memory`: calls by another process, whose buffers lie between walls.
 
 pub mod calls;
 pub mod compare;
 pub mod files;
 pub mod library;
+pub mod memory;

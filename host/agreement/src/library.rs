@@ -2,7 +2,7 @@
 
 use std::ops::Range;
 
-use second::call::Limits;
+use second::call::Case;
 use second::end::Refusal;
 
 extern "C" {
@@ -88,48 +88,25 @@ impl<'a, T> Part<'a, T> {
     }
 }
 
-/// The whole call.
-pub fn call(
-    file: &[u8],
-    limits: Limits,
-    budget: u32,
-    wanted: u32,
-    scratch: &mut [u32],
-    out: &mut [u8],
-    result: &mut [u64],
-) {
-    call_parts(
-        file,
-        limits,
-        budget,
-        wanted,
-        Part::whole(scratch),
-        Part::whole(out),
-        Part::whole(result),
-    )
+/// The whole call. The lengths of scratch and output are those of the buffers.
+pub fn call(case: &Case, scratch: &mut [u32], out: &mut [u8], result: &mut [u64]) {
+    let (scratch, out) = (Part::whole(scratch), Part::whole(out));
+    call_parts(case, scratch, out, Part::whole(result))
 }
 
 /// The whole call, with parts of buffers.
-pub fn call_parts(
-    file: &[u8],
-    limits: Limits,
-    budget: u32,
-    wanted: u32,
-    mut scratch: Part<u32>,
-    mut out: Part<u8>,
-    mut result: Part<u64>,
-) {
+pub fn call_parts(case: &Case, mut scratch: Part<u32>, mut out: Part<u8>, mut result: Part<u64>) {
     // SAFETY: the function reads the file, and writes to the three parts and to
     // nothing else. They lie in buffers which nothing else can reach.
     unsafe {
         pegplanet_call(
-            file.as_ptr(),
-            file.len(),
-            limits.cells,
-            limits.steps,
-            limits.work,
-            budget,
-            wanted,
+            case.file.as_ptr(),
+            case.file.len(),
+            case.limits.cells,
+            case.limits.steps,
+            case.limits.work,
+            case.budget,
+            case.wanted,
             scratch.start(),
             scratch.len(),
             out.start(),

@@ -1,67 +1,39 @@
-//! Calls of the library: document 01's figures, and agreement with the second
-//! program on many calls.
+//! Calls of the library: its limits, and agreement with the second program on
+//! many calls.
 
 use agreement::calls::{compare, from_seed, thresholds, Both, Call, Tally};
 use agreement::library::{call, run};
 use second::assemble::file;
-use second::call::{Limits, Outcome};
+use second::call::{Case, Limits, Outcome};
 use second::damage::length;
 use second::examples::naive_reverse;
-use second::generate::{good_program, Case};
+use second::generate::good_program;
 use second::random::Random;
 use second::random_programs::wide_and_deep;
 
 const APPEND: &[u8] = include_bytes!("../../../examples/append.rules");
 
-/// Case A, as document 01 has it.
-const A: &str = "01 00 01 02 01 00 02 03 03 00 00 01 00 05 00 00 04 00 04 00 03 00 00 04 01
-    05 00 01 04 00 04 01 04 02 05 00 01 04 00 04 03 06 00 00 04 01 04 02 04 03 08 02 01
-    06 00 00 04 00 04 01 05 00 01 05 00 02 05 00 00 09";
-const A_ANSWERS: &str = "0A 00 00 00 01 05 00 00 05 00 01 05 00 02 05 00 00 0C 00 00 0D
-    0A 00 00 00 02 05 00 01 05 00 02 05 00 00 05 00 00 0C 00 01 0C 00 00 0D";
-
-/// Bytes from their two-digit form.
-fn bytes(text: &str) -> Vec<u8> {
-    let byte = |word| u8::from_str_radix(word, 16).expect("two digits");
-    text.split_whitespace().map(byte).collect()
-}
-
-/// What a call needs beside its file.
-#[derive(Clone, Copy)]
-struct Settings {
-    limits: Limits,
-    budget: u32,
-    wanted: u32,
-    room: usize,
-}
-
-/// Settings that no small case reaches.
-const AMPLE: Settings = Settings {
-    limits: Limits {
+/// A call of a file that no small program brings to a stop.
+fn ample(file: &[u8]) -> Case {
+    let limits = Limits {
         cells: 500,
         steps: 300,
         work: 100,
-    },
-    budget: 10_000,
-    wanted: 1_000,
-    room: 10_000,
-};
+    };
+    Case {
+        budget: 10_000,
+        room: 10_000,
+        ..Case::new(file, limits)
+    }
+}
 
 /// End or refusal, place, answers and units of a library call, and the bytes
 /// it wrote.
-fn library(file: &[u8], settings: Settings) -> ([u64; 4], Vec<u8>) {
-    let mut scratch = vec![0xABCD_1234; settings.limits.scratch(file.len())];
-    let mut out = vec![0x5A; settings.room];
+fn library(case: &Case) -> ([u64; 4], Vec<u8>) {
+    let mut scratch = vec![0xABCD_1234; case.scratch_len];
+    let mut out = vec![0x5A; case.room];
     let mut result = [7; 12];
-    call(
-        file,
-        settings.limits,
-        settings.budget,
-        settings.wanted,
-        &mut scratch,
-        &mut out,
-        &mut result,
-    );
+    call(case, &mut scratch, &mut out, &mut result);
     let [number, place, answers, units, written, ..] = result;
     assert_eq!(result[5..], [0; 7]);
     let rest = out.split_off(written as usize);
@@ -69,121 +41,18 @@ fn library(file: &[u8], settings: Settings) -> ([u64; 4], Vec<u8>) {
     ([number, place, answers, units], out)
 }
 
-/// An end, after so many of the two answers of case A.
-fn a(settings: Settings, end: u64, answers: usize, units: u64) {
-    let (result, out) = library(APPEND, settings);
-    assert_eq!(result, [end, 0, answers as u64, units]);
-    assert_eq!(out, bytes(A_ANSWERS)[..[0, 21, 45][answers]]);
-}
-
-#[test]
-fn append_with_ample_limits() {
-    assert_eq!(APPEND, bytes(A));
-    a(AMPLE, 20, 2, 18);
-}
-
-#[test]
-fn append_with_budgets() {
-    // Whatever the budget, none of it is left at end 22.
-    let budget = |budget| Settings { budget, ..AMPLE };
-    a(budget(18), 20, 2, 18);
-    a(budget(17), 22, 2, 17);
-    a(budget(14), 22, 2, 14);
-    a(budget(13), 22, 1, 13);
-    a(budget(4), 22, 1, 4);
-    a(budget(3), 22, 0, 3);
-}
-
-#[test]
-fn append_with_few_cells_steps_and_bytes() {
-    let cells = |cells| Settings {
-        limits: Limits {
-            cells,
-            ..AMPLE.limits
-        },
-        ..AMPLE
-    };
-    a(cells(10), 20, 2, 18);
-    a(cells(9), 23, 2, 15);
-    a(cells(1), 23, 0, 0);
-    let steps = |steps| Settings {
-        limits: Limits {
-            steps,
-            ..AMPLE.limits
-        },
-        ..AMPLE
-    };
-    a(steps(2), 20, 2, 18);
-    a(steps(1), 24, 1, 11);
-    let room = |room| Settings { room, ..AMPLE };
-    a(room(45), 20, 2, 18);
-    a(room(44), 26, 1, 14);
-    a(room(21), 26, 1, 14);
-    a(room(20), 26, 0, 4);
-}
-
-/// The steps of each answer.
-fn steps(out: &[u8]) -> Vec<Vec<u8>> {
-    let mut all = Vec::new();
-    for place in second::damage::places(out) {
-        match out[place] {
-            0x0A => all.push(Vec::new()),
-            0x0C => all.last_mut().expect("an answer").push(out[place + 2]),
-            _ => (),
-        }
-    }
-    all
-}
-
-#[test]
-fn the_other_programs_run_by_hand() {
-    let ample = |text: &str| {
-        let (result, out) = library(&file(text), AMPLE);
-        assert_eq!(result[..2], [20, 0]);
-        let steps = steps(&out);
-        assert_eq!(result[2], steps.len() as u64);
-        (steps, result[3], out)
-    };
-    let (b, units, _) = ample("p :- a1, a2. a1 :- b. a1. a2. ?- p.");
-    assert_eq!((b, units), (vec![vec![0, 2, 3]], 4));
-    let (c, _, out) = ample("q(a,b). q(Z,c) :- r(Z). r(c). ?- q(X,Y).");
-    assert_eq!(c, [vec![0], vec![1, 2]]);
-    let values = "0A 00 00 00 01 05 00 00 05 00 01 0C 00 00 0D
-        0A 00 00 00 02 05 00 02 05 00 02 0C 00 01 0C 00 02 0D";
-    assert_eq!(out, bytes(values));
-    let (d, units, _) = ample("eq(V,V). ?- eq(X,f(X)).");
-    assert_eq!((d, units), (vec![], 3));
-    let (e, units, _) = ample("a(X) :- b(X), !. a(two). b(one). b(two). ?- a(X).");
-    assert_eq!((e, units), (vec![vec![0, 2]], 5));
-    let (e, units, _) = ample("a(X) :- b(X). a(two). b(one). b(two). ?- a(X).");
-    assert_eq!((e, units), (vec![vec![0, 2], vec![0, 3], vec![1]], 8));
-}
-
-#[test]
-fn a_query_of_no_goals() {
-    let empty = bytes("08 00 00 09");
-    let answer = bytes("0A 00 00 00 00 0D");
-    let wanted = |wanted| library(&empty, Settings { wanted, ..AMPLE });
-    assert_eq!(wanted(2), ([20, 0, 1, 0], answer.clone()));
-    assert_eq!(wanted(1), ([21, 0, 1, 0], answer));
-    assert_eq!(wanted(0), ([21, 0, 0, 0], vec![]));
-}
-
 #[test]
 fn refusals_before_and_in_the_file() {
-    let limits = |cells, steps, work| Settings {
-        limits: Limits { cells, steps, work },
-        ..AMPLE
-    };
     let refused = |number, place| ([number, place, 0, 0], vec![]);
-    for bad in [limits(0, 9, 9), limits(9, 60_001, 9), limits(9, 9, 7)] {
-        assert_eq!(library(APPEND, bad), refused(1, 0));
+    for (cells, steps, work) in [(0, 9, 9), (9, 60_001, 9), (9, 9, 7)] {
+        let limits = Limits { cells, steps, work };
+        assert_eq!(library(&Case::new(APPEND, limits)), refused(1, 0));
     }
-    assert_eq!(library(&[9; 60_001], AMPLE), refused(2, 0));
-    assert_eq!(library(&[9; 60_000], AMPLE), refused(5, 0));
-    assert_eq!(library(&APPEND[..69], AMPLE), refused(4, 69));
+    assert_eq!(library(&ample(&[9; 60_001])), refused(2, 0));
+    assert_eq!(library(&ample(&[9; 60_000])), refused(5, 0));
+    assert_eq!(library(&ample(&APPEND[..69])), refused(4, 69));
     let longer = [APPEND, &[9]].concat();
-    assert_eq!(library(&longer, AMPLE), refused(9, 70));
+    assert_eq!(library(&ample(&longer)), refused(9, 70));
 }
 
 #[test]
@@ -207,23 +76,23 @@ fn naive_reverse_of_thirty() {
     answer.extend(&list[180..]);
     answer.extend(steps.iter().flat_map(|&clause| [0x0C, 0, clause]));
     answer.push(0x0D);
-    let large = Settings {
-        limits: Limits {
+    let with_steps = |steps| {
+        let limits = Limits {
             cells: 4_000,
-            steps: 496,
+            steps,
             work: 100,
-        },
-        ..AMPLE
+        };
+        library(&Case {
+            budget: 10_000,
+            room: 10_000,
+            ..Case::new(&reverse, limits)
+        })
     };
-    let ([end, _, answers, _], out) = library(&reverse, large);
+    let ([end, _, answers, _], out) = with_steps(496);
     assert_eq!((end, answers), (20, 1));
     assert_eq!(out, answer);
     // With one step less there is no answer.
-    let limits = Limits {
-        steps: 495,
-        ..large.limits
-    };
-    let ([end, _, answers, _], out) = library(&reverse, Settings { limits, ..large });
+    let ([end, _, answers, _], out) = with_steps(495);
     assert_eq!((end, answers, out), (24, 0, vec![]));
 }
 
@@ -309,31 +178,6 @@ fn a_call_twice_and_with_other_contents_of_its_buffers() {
         }
         assert!(said[0] == said[1] && said[1] == said[2], "{seed}: {said:?}");
     }
-}
-
-#[test]
-fn calls_from_several_threads_at_once() {
-    let thread = |first| {
-        std::thread::spawn(move || compare(from_seed(first).take(1_000)).expect("no difference"))
-    };
-    for thread in [40_000, 50_000, 60_000, 70_000].map(thread) {
-        let tally = thread.join().expect("the thread ends");
-        assert_eq!(tally.calls(), 1_000);
-    }
-}
-
-#[test]
-fn append_in_the_embedded_form() {
-    let mut out = [0x5A; 50];
-    assert_eq!(run(APPEND, 1_000, 1_000, &mut out), 20 << 32 | 45);
-    assert_eq!(out[..45], bytes(A_ANSWERS));
-    assert_eq!(out[45..], [0x5A; 5]);
-    assert_eq!(run(APPEND, 18, 1, &mut out), 21 << 32 | 21);
-    assert_eq!(run(APPEND, 3, 9, &mut out), 22 << 32);
-    assert_eq!(run(APPEND, 18, 9, &mut out[..44]), 26 << 32 | 21);
-    assert_eq!(run(APPEND, 18, 9, &mut []), 26 << 32);
-    assert_eq!(run(&APPEND[..69], 18, 9, &mut out), 4 << 32 | 69);
-    assert_eq!(run(&[], 0, 0, &mut []), 4 << 32);
 }
 
 #[test]

@@ -1,74 +1,45 @@
-//! The header and the example, compiled without a warning, linked and run.
+//! The header, the page's example and the check, compiled without a warning,
+//! linked and run.
 
-use std::io::Write;
-use std::path::{Path, PathBuf};
-use std::process::{Command, Stdio};
+mod common;
 
-const WARNINGS: [&str; 4] = ["-Wall", "-Wextra", "-pedantic", "-Werror"];
+use common::*;
 
-/// Compiles a source of this repository and links the library to it.
-fn compiled(compiler: &str, language: &[&str], source: &str, program: &str) -> PathBuf {
-    let top = Path::new(env!("CARGO_MANIFEST_DIR")).join("../..");
-    let program = Path::new(env!("CARGO_TARGET_TMPDIR")).join(program);
-    let ended = Command::new(compiler)
-        .args(language)
-        .args(WARNINGS)
-        .arg("-I")
-        .arg(top.join("include"))
-        .arg(top.join(source))
-        .args(["-x", "none"])
-        .arg(top.join("build/libpegplanet.a"))
-        .arg("-o")
-        .arg(&program)
-        .output()
-        .unwrap_or_else(|error| panic!("{compiler} does not run: {error}"));
-    let said = String::from_utf8_lossy(&ended.stderr);
-    assert!(ended.status.success(), "{compiler}: {said}");
-    assert!(said.is_empty(), "{compiler}: {said}");
-    program
-}
-
-/// What a program writes when it gets these bytes, and its status.
-fn run(program: &Path, input: &[u8]) -> (String, Option<i32>) {
-    let mut child = Command::new(program)
-        .stdin(Stdio::piped())
-        .stdout(Stdio::piped())
-        .spawn()
-        .expect("the program starts");
-    let mut stdin = child.stdin.take().expect("its input");
-    stdin.write_all(input).expect("it reads its input");
-    drop(stdin);
-    let ended = child.wait_with_output().expect("the program ends");
-    let said = String::from_utf8_lossy(&ended.stdout).into_owned();
-    (said, ended.status.code())
+#[test]
+fn the_header_serves_c99_and_cpp_programs() {
+    let source = path("host/agreement/tests/header.c");
+    for (language, program) in [(C99, "header_c"), (CPP, "header_cpp")] {
+        let program = compiled(language, &source, program);
+        assert_eq!(said(&program, &[]), (String::new(), Some(0)));
+    }
 }
 
 #[test]
-fn the_header_serves_a_c99_program() {
-    let language = ["-std=c99", "-x", "c"];
-    let source = "host/agreement/tests/header.c";
-    let program = compiled("cc", &language, source, "header_c");
-    assert_eq!(run(&program, &[]), (String::new(), Some(0)));
+fn the_example_of_the_page_compiles_as_printed() {
+    let page = std::fs::read_to_string(path("README.md")).expect("the page");
+    let after = page.split_once("```c\n").expect("an example").1;
+    let example = after.split_once("```").expect("its end").0;
+    assert!(example.contains("pegplanet_run"), "{example}");
+    let source = own("page.c");
+    std::fs::write(&source, example).expect("a source");
+    for (language, program) in [(C99, "page_c"), (CPP, "page_cpp")] {
+        let program = compiled(language, &source, program);
+        let line = "number 20, place 0, bytes 45\n".to_string();
+        assert_eq!(said(&program, APPEND), (line, Some(0)));
+        let line = "number 4, place 69, bytes 0\n".to_string();
+        assert_eq!(said(&program, &APPEND[..69]), (line, Some(1)));
+    }
 }
 
 #[test]
-fn the_header_serves_a_cpp_program() {
-    let language = ["-std=c++11", "-x", "c++"];
-    let source = "host/agreement/tests/header.c";
-    let program = compiled("c++", &language, source, "header_cpp");
-    assert_eq!(run(&program, &[]), (String::new(), Some(0)));
-}
-
-#[test]
-fn the_example_says_what_came_of_a_file() {
-    let program = compiled("cc", &["-std=c99"], "examples/check.c", "check");
-    let file: &[u8] = include_bytes!("../../../examples/append.rules");
-    let said = |file: &[u8], line: &str, status| {
-        assert_eq!(run(&program, file), (format!("{line}\n"), Some(status)));
+fn the_check_says_what_came_of_a_file() {
+    let program = compiled(C99, &path("examples/check.c"), "check");
+    let line = |file: &[u8], line: &str, status| {
+        assert_eq!(said(&program, file), (format!("{line}\n"), Some(status)));
     };
-    said(file, "good", 0);
-    said(&file[..69], "refused 4 at 69", 1);
-    said(&[1, 0, 1, 9], "refused 6 at 2", 1);
-    said(&second::damage::length(60_000), "good", 0);
-    said(&second::damage::length(60_001), "over 60000 bytes", 2);
+    line(APPEND, "good", 0);
+    line(&APPEND[..69], "refused 4 at 69", 1);
+    line(&[1, 0, 1, 9], "refused 6 at 2", 1);
+    line(&second::damage::length(60_000), "good", 0);
+    line(&second::damage::length(60_001), "over 60000 bytes", 2);
 }

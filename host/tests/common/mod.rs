@@ -1,7 +1,7 @@
 //! What the tests share: bytes from text, and calls with ample buffers.
 #![allow(dead_code)]
 
-use second::call::{call, Limits, Outcome};
+use second::call::{Case, Limits, Memory, Outcome};
 
 /// Limits that no small case reaches.
 pub const AMPLE: Limits = Limits {
@@ -26,30 +26,24 @@ pub const SETTINGS: Settings = Settings {
     room: 10_000,
 };
 
-/// Bytes from their two-digit form.
-pub fn bytes(text: &str) -> Vec<u8> {
-    let byte = |word| u8::from_str_radix(word, 16).expect("two digits");
-    text.split_whitespace().map(byte).collect()
+/// A call, with its outcome and the bytes written.
+pub fn called(case: &Case) -> (Outcome, Vec<u8>) {
+    let mut scratch = vec![0; case.scratch_len];
+    let mut out = vec![0; case.room];
+    let outcome = case.call(&mut Memory::default(), &mut scratch, &mut out);
+    let [.., written] = outcome.words();
+    out.truncate(written as usize);
+    (outcome, out)
 }
 
 /// A call with exactly the scratch it needs; the outcome and the bytes written.
 pub fn run(file: &[u8], settings: Settings) -> (Outcome, Vec<u8>) {
-    let mut scratch = vec![0; settings.limits.scratch(file.len())];
-    let mut out = vec![0; settings.room];
-    let outcome = call(
-        file,
-        settings.limits,
-        settings.budget,
-        settings.wanted,
-        &mut scratch,
-        &mut out,
-    );
-    let written = match outcome {
-        Outcome::Ended { bytes, .. } => bytes,
-        Outcome::Refused { .. } => 0,
-    };
-    out.truncate(written);
-    (outcome, out)
+    called(&Case {
+        budget: settings.budget,
+        wanted: settings.wanted,
+        room: settings.room,
+        ..Case::new(file, settings.limits)
+    })
 }
 
 /// The end, the answers and the units of a run that was not refused.

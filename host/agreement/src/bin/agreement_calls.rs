@@ -1,7 +1,8 @@
 //! `agreement_calls COUNT [FIRST]`: the library and the second program on so
-//! many calls of the generator, from the seed FIRST on. The tests take the
-//! seeds before 1,000,000.
+//! many calls of the generator, from the seed FIRST on, each by the whole call
+//! and by the embedded form. The tests take the seeds before 1,000,000.
 
+use std::ops::RangeInclusive;
 use std::time::Instant;
 
 use agreement::calls::{from_seed, Both, Tally};
@@ -17,12 +18,19 @@ fn main() {
     let start = Instant::now();
     let mut both = Both::default();
     let mut tally = Tally::default();
+    let mut embedded = Tally::default();
     let mut slowest = (0.0, 0);
     for (seed, call) in from_seed(first).take(count as usize) {
         let start = Instant::now();
-        match both.agreed(&call) {
-            Ok(outcome) => tally.add(&outcome),
-            Err(difference) => fail(&format!("seed {seed}: {difference}; {call:?}")),
+        let agreed = both.agreed(&call).and_then(|outcome| {
+            tally.add(&outcome);
+            let case = &call.case;
+            let packed = both.agreed_embedded(&case.file, case.budget, case.wanted, case.room)?;
+            embedded.by_number[(packed >> 32) as usize] += 1;
+            Ok(())
+        });
+        if let Err(difference) = agreed {
+            fail(&format!("seed {seed}: {difference}; {call:?}"));
         }
         let seconds = start.elapsed().as_secs_f64();
         if seconds > slowest.0 {
@@ -30,16 +38,19 @@ fn main() {
         }
     }
     let seconds = start.elapsed().as_secs_f64();
-    let calls = tally.calls();
-    println!("the library and the second program agree on {calls} calls, in {seconds:.1} s");
-    let counts = |numbers: std::ops::RangeInclusive<usize>| {
-        let counts = numbers.map(|number| format!("{number}: {}", tally.by_number[number]));
-        counts.collect::<Vec<_>>().join(", ")
-    };
-    println!("  refused {}", counts(1..=9));
-    println!("  ended {}", counts(20..=26));
+    println!("the library and the second program agree on {count} calls, in {seconds:.1} s");
+    for (form, tally) in [("pegplanet_call", &tally), ("pegplanet_run", &embedded)] {
+        assert_eq!(tally.calls() as u64, count);
+        println!("  {form}: refused {}", counts(tally, 1..=9));
+        println!("  {form}: ended {}", counts(tally, 20..=26));
+    }
     let (seconds, seed) = slowest;
     println!("  the slowest call, of seed {seed}, took both {seconds:.3} s");
+}
+
+fn counts(tally: &Tally, numbers: RangeInclusive<usize>) -> String {
+    let counts = numbers.map(|number| format!("{number}: {}", tally.by_number[number]));
+    counts.collect::<Vec<_>>().join(", ")
 }
 
 fn fail(message: &str) -> ! {

@@ -1,5 +1,5 @@
 //! The time of a whole call, by the library and by the second program, for
-//! several example programs.
+//! several example programs; and of case A in the embedded form.
 
 use std::hint::black_box;
 use std::time::Instant;
@@ -7,9 +7,9 @@ use std::time::Instant;
 use agreement::calls::{told, Both, Call};
 use agreement::library;
 use second::assemble::file;
-use second::call::{Limits, Memory, Outcome};
+use second::call::{Case, Limits, Memory, Outcome};
+use second::cases::programs;
 use second::examples::*;
-use second::generate::Case;
 
 const SMALL: Limits = limits(4_000, 600);
 const MEDIUM: Limits = limits(10_000, 2_500);
@@ -40,25 +40,33 @@ fn least(case: &Case) -> (f64, f64) {
     let mut out = vec![0; case.room];
     let mut result = [0; 12];
     let mut memory = Memory::default();
-    let (limits, budget, wanted) = (case.limits, case.budget, case.wanted);
     let mut least = (f64::INFINITY, f64::INFINITY);
     let mut calls = 1;
     for _ in 0..ROUNDS {
         let library = time(calls, || {
-            let file = black_box(&case.file);
-            let (scratch, out) = (&mut scratch, &mut out);
-            library::call(file, limits, budget, wanted, scratch, out, &mut result);
+            library::call(black_box(case), &mut scratch, &mut out, &mut result);
             black_box(&result);
         });
         let second = time(calls, || {
-            let file = black_box(&case.file);
-            let (scratch, out) = (&mut scratch, &mut out);
-            black_box(memory.call(file, limits, budget, wanted, scratch, out));
+            black_box(black_box(case).call(&mut memory, &mut scratch, &mut out));
         });
         least = (least.0.min(library), least.1.min(second));
         calls = (1 + (ROUND * 1e6 / library.min(second)) as usize).min(1_000);
     }
     least
+}
+
+/// The least time of case A in the embedded form, in microseconds.
+fn embedded() -> f64 {
+    let file = &programs()[0].file;
+    let mut out = [0; 1_000];
+    let rounds = (0..ROUNDS).map(|_| {
+        time(1_000, || {
+            let packed = library::run(black_box(file), 1_000, 1_000, &mut out);
+            assert_eq!(black_box(packed), 20 << 32 | 45);
+        })
+    });
+    rounds.fold(f64::INFINITY, f64::min)
 }
 
 /// Walks in a graph of 4,094 edges: as many clauses as a file may have.
@@ -70,6 +78,9 @@ fn large_graph() -> String {
 }
 
 fn main() {
+    let call = embedded();
+    let second = 1e6 / call;
+    println!("pegplanet_run on case A: {call:.2} us a call, {second:.0} calls a second");
     // Each with the answers it has; the second looks for more without end.
     let programs = [
         ("naive reverse of 10", long_reverse(1), 1, SMALL),
@@ -87,14 +98,11 @@ fn main() {
         "program                units answers  library us  ns a unit  second us  library / second"
     );
     for (name, text, wanted, limits) in programs {
-        let file = file(&text);
         let case = Case {
-            scratch_len: limits.scratch(file.len()),
-            file,
-            limits,
             budget: 1_000_000,
             wanted,
             room: ROOM,
+            ..Case::new(&file(&text), limits)
         };
         let outcome = match Both::default().agreed(&Call::new(case.clone())) {
             Ok(outcome) => outcome,
