@@ -1,4 +1,4 @@
--- The place of a refusal is a place of the file, or the place after it.
+-- A refusal of a file has a number of document 01's table, and its place is a place of the file, or the place after it.
 -- Assumes nothing.
 use Prim.Native.Nat.{ℕ, zero, suc, _+_, _≤_, _<_}
 use mathlib.Core.Path.{_≡_, refl, subst}
@@ -19,10 +19,19 @@ module _ (file : List ℕ) where
   abbrev F : ℕ
   F = length file
 
-  -- it refuses at a place that is inside, or comes to one
+  -- a number from 4 to 9, and a place that is inside
+  pub record Fault (n p : ℕ) : Type 0 where
+    pub least : 4 ≤ n
+    pub most : n ≤ 9
+    pub inside : p ≤ F
+
+  -- it refuses so, or comes to a place that is inside
   data Inside {A : Type 0} (P : A → Type 0) : Read A → Type 0 where
-    faulty : {n p : ℕ} → p ≤ F → Inside P (refused n p)
+    faulty : {n p : ℕ} → Fault n p → Inside P (refused n p)
     faultless : {a : A} {seen at : ℕ} → P a → at ≤ F → Inside P (read a seen at)
+
+  fault : {p : ℕ} (n : ℕ) → p ≤ F → 4 ≤ n → n ≤ 9 → Fault n p
+  fault n h a b = record { least = a; most = b; inside = h }
 
   abbrev Any : {A : Type 0} → A → Type 0
   Any a = Unit {0}
@@ -36,7 +45,7 @@ module _ (file : List ℕ) where
   after-inside (faulty h) k = faulty h
   after-inside (faultless {a} {seen} {at} p h) k = k a p seen at h
 
-  need-inside : (b : Bool) (n p : ℕ) → p ≤ F → Stays (need b n p)
+  need-inside : (b : Bool) (n p : ℕ) → Fault n p → Stays (need b n p)
   unfolding need
   need-inside true n p h seen at l = faultless tt l
   need-inside false n p h seen at l = faulty h
@@ -47,13 +56,13 @@ module _ (file : List ℕ) where
 
   all-inside : (declared p : ℕ) → p ≤ F → Stays (all-seen declared p)
   unfolding all-seen
-  all-inside declared p h seen at l = need-inside _ 7 p h seen at l
+  all-inside declared p h seen at l = need-inside _ 7 p (fault 7 h (omega arith) (omega arith)) seen at l
 
   next-inside : (due : ℕ → Bool) (seen at : ℕ) → at ≤ F → Inside (λ p. p ≤ F) (next file due seen at)
   unfolding next
   next-inside due seen at l =
       let Q : Read ℕ → Type 0 = Inside (λ p. p ≤ F) in
-      if-by Q _ (λ e. faulty l) λ e. if-by Q _ (λ d. faulty l) λ d. if-by Q _ (λ s. faulty l) λ s. faultless l (ltb-false _ _ s)
+      if-by Q _ (λ e. faulty (fault 4 l (omega arith) (omega arith))) λ e. if-by Q _ (λ d. faulty (fault 5 l (omega arith) (omega arith))) λ d. if-by Q _ (λ s. faulty (fault 4 l (omega arith) (omega arith))) λ s. faultless l (ltb-false _ _ s)
 
   terms-inside : (one : Reader Term) → Stays one → (n : ℕ) → Stays (terms one n)
   unfolding terms _>>=_ give
@@ -69,16 +78,16 @@ module _ (file : List ℕ) where
   unfolding variable
   variable-inside declared p h seen at l =
       let Q : Read Term → Type 0 = Inside Any in
-      if-by Q _ (λ e. faulty h) λ e. if-by Q _ (λ d. faulty h) λ d. if-by Q _ (λ s. faultless tt l) λ s. faultless tt l
+      if-by Q _ (λ e. faulty (fault 7 h (omega arith) (omega arith))) λ e. if-by Q _ (λ d. faulty (fault 7 h (omega arith) (omega arith))) λ d. if-by Q _ (λ s. faultless tt l) λ s. faultless tt l
 
   applied-inside : (functions : List ℕ) (argument : Reader Term) → Stays argument → (p : ℕ) → p ≤ F → Stays (applied file functions argument p)
   unfolding applied _>>_ _>>=_ give
   applied-inside functions argument k p h seen at l =
-      after-inside (need-inside _ 6 p h seen at l) λ u v seen₁ at₁ l₁. after-inside (terms-inside argument k _ seen₁ at₁ l₁) λ ts w seen₂ at₂ l₂. faultless tt l₂
+      after-inside (need-inside _ 6 p (fault 6 h (omega arith) (omega arith)) seen at l) λ u v seen₁ at₁ l₁. after-inside (terms-inside argument k _ seen₁ at₁ l₁) λ ts w seen₂ at₂ l₂. faultless tt l₂
 
   term-inside : (functions : List ℕ) (declared levels : ℕ) → Stays (term file functions declared levels)
   unfolding term _>>=_ refuse
-  term-inside functions declared zero seen at l = after-inside (next-inside term-due seen at l) λ p h seen₁ at₁ l₁. faulty h
+  term-inside functions declared zero seen at l = after-inside (next-inside term-due seen at l) λ p h seen₁ at₁ l₁. faulty (fault 8 h (omega arith) (omega arith))
   term-inside functions declared (suc levels) seen at l =
       after-inside (next-inside term-due seen at l) λ p h seen₁ at₁ l₁.
       if-by (λ (r : Reader Term). Inside Any (r seen₁ at₁)) _ (λ e. variable-inside declared p h seen₁ at₁ l₁) λ e. applied-inside functions _ (term-inside functions declared levels) p h seen₁ at₁ l₁
@@ -91,7 +100,7 @@ module _ (file : List ℕ) where
     called-inside : (declared p : ℕ) → p ≤ F → Stays (called file functions predicates declared p)
     unfolding called _>>_ _>>=_ give
     called-inside declared p h seen at l =
-        after-inside (need-inside _ 6 p h seen at l) λ u v seen₁ at₁ l₁. after-inside (arguments-inside functions declared _ seen₁ at₁ l₁) λ ts w seen₂ at₂ l₂. faultless tt l₂
+        after-inside (need-inside _ 6 p (fault 6 h (omega arith) (omega arith)) seen at l) λ u v seen₁ at₁ l₁. after-inside (arguments-inside functions declared _ seen₁ at₁ l₁) λ ts w seen₂ at₂ l₂. faultless tt l₂
 
     goal-inside : (declared : ℕ) → Stays (goal file functions predicates declared)
     unfolding goal _>>=_ give
@@ -102,7 +111,7 @@ module _ (file : List ℕ) where
     clause-inside : (p : ℕ) → p ≤ F → Stays (clause file functions predicates p)
     unfolding clause _>>_ _>>=_ give
     clause-inside p h seen at l =
-        after-inside (need-inside _ 6 p h seen at l) λ u v seen₁ at₁ l₁.
+        after-inside (need-inside _ 6 p (fault 6 h (omega arith) (omega arith)) seen at l) λ u v seen₁ at₁ l₁.
         after-inside (none-inside seen₁ at₁ l₁) λ u v seen₁ at₁ l₁.
         after-inside (arguments-inside functions _ _ seen₁ at₁ l₁) λ ts w seen₂ at₂ l₂.
         after-inside (goals-inside _ (goal-inside _) _ seen₂ at₂ l₂) λ gs x seen₃ at₃ l₃.
@@ -111,31 +120,31 @@ module _ (file : List ℕ) where
     query-inside : (clauses : List Clause) (p : ℕ) → p ≤ F → Stays (query file functions predicates clauses p)
     unfolding query _>>_ _>>=_ give
     query-inside clauses p h seen at l =
-        after-inside (need-inside _ 6 p h seen at l) λ u v seen₁ at₁ l₁.
+        after-inside (need-inside _ 6 p (fault 6 h (omega arith) (omega arith)) seen at l) λ u v seen₁ at₁ l₁.
         after-inside (none-inside seen₁ at₁ l₁) λ u v seen₁ at₁ l₁.
         after-inside (goals-inside _ (goal-inside _) _ seen₁ at₁ l₁) λ gs x seen₂ at₂ l₂.
         after-inside (all-inside _ p h seen₂ at₂ l₂) λ y z seen₃ at₃ l₃. faultless tt l₃
 
   items-inside : (more latest : ℕ) (functions predicates : List ℕ) (clauses : List Clause) → Stays (items file more latest functions predicates clauses)
   unfolding items _>>_ _>>=_ give no-more
-  items-inside zero latest functions predicates clauses seen at l = faulty l
+  items-inside zero latest functions predicates clauses seen at l = faulty (fault 4 l (omega arith) (omega arith))
   items-inside (suc more) latest functions predicates clauses seen at l =
       after-inside (next-inside (item-due latest) seen at l) λ p h seen₁ at₁ l₁.
       let Q : Reader Rules → Type 0 = λ r. Inside Any (r seen₁ at₁) in
-      if-by Q _ (λ k. after-inside (need-inside _ 6 p h seen₁ at₁ l₁) λ u v seen₂ at₂ l₂. items-inside more _ _ _ _ seen₂ at₂ l₂) λ k₁.
-      if-by Q _ (λ k. after-inside (need-inside _ 6 p h seen₁ at₁ l₁) λ u v seen₂ at₂ l₂. items-inside more _ _ _ _ seen₂ at₂ l₂) λ k₂.
-      if-by Q _ (λ k. after-inside (need-inside _ 6 p h seen₁ at₁ l₁) λ u v seen₂ at₂ l₂.
+      if-by Q _ (λ k. after-inside (need-inside _ 6 p (fault 6 h (omega arith) (omega arith)) seen₁ at₁ l₁) λ u v seen₂ at₂ l₂. items-inside more _ _ _ _ seen₂ at₂ l₂) λ k₁.
+      if-by Q _ (λ k. after-inside (need-inside _ 6 p (fault 6 h (omega arith) (omega arith)) seen₁ at₁ l₁) λ u v seen₂ at₂ l₂. items-inside more _ _ _ _ seen₂ at₂ l₂) λ k₂.
+      if-by Q _ (λ k. after-inside (need-inside _ 6 p (fault 6 h (omega arith) (omega arith)) seen₁ at₁ l₁) λ u v seen₂ at₂ l₂.
       after-inside (clause-inside _ _ p h seen₂ at₂ l₂) λ c w seen₃ at₃ l₃. items-inside more _ _ _ _ seen₃ at₃ l₃) λ k₃.
       after-inside (query-inside _ _ clauses p h seen₁ at₁ l₁) λ R u seen₂ at₂ l₂.
       after-inside (next-inside end-due seen₂ at₂ l₂) λ e v seen₃ at₃ l₃.
-      after-inside (need-inside _ 9 at₃ l₃ seen₃ at₃ l₃) λ w x seen₄ at₄ l₄. faultless tt l₄
+      after-inside (need-inside _ 9 at₃ (fault 9 l₃ (omega arith) (omega arith)) seen₃ at₃ l₃) λ w x seen₄ at₄ l₄. faultless tt l₄
 
   parse-inside : Inside Any (parse file)
   unfolding parse
   parse-inside = items-inside F a-function [] [] [] 0 0 (omega arith)
 
-  place-of : {n p : ℕ} → Inside {A = Rules} Any (refused n p) → p ≤ F
-  place-of (faulty h) = h
+  fault-of : {n p : ℕ} → Inside {A = Rules} Any (refused n p) → Fault n p
+  fault-of (faulty h) = h
 
-  pub refused-inside : (n p : ℕ) → parse file ≡ refused n p → p ≤ length file
-  refused-inside n p e = place-of (subst (Inside Any) e parse-inside)
+  pub refused-inside : (n p : ℕ) → parse file ≡ refused n p → Fault n p
+  refused-inside n p e = fault-of (subst (Inside Any) e parse-inside)

@@ -19,6 +19,7 @@ use Rattle.meaning.specs.Moves.{nothing, spend, list, pairs, keep, fail, answer
 use Rattle.meaning.specs.Call.{Result, refusal, end, in-range, needed, ending, run-read, result}
 use Rattle.laws.specs.IfLaws.{if-by}
 use Rattle.demands.specs.Faults.{refused-inside}
+use Rattle.demands.specs.Stops.{run-range}
 
 -- the bytes of answers, with one more
 pub output-last : (xs : List Answer) (a : Answer) → output (xs ++ a ∷ []) ≡ output xs ++ bytes a
@@ -125,18 +126,19 @@ module _ (R : Rules) (L : Limits) (wanted room : ℕ) where
   pub run-roomy : (budget : ℕ) → length (output (run R L wanted room budget (start R L wanted room) .1 .listed)) ≤ room
   run-roomy budget = run-fits budget (start R L wanted room) start-fits
 
--- ---- the result of a call: a refusal's place is in the file or just after it, and the bytes of an end are in the room
+-- ---- the result of a call: a refusal has a number from 1 to 9, and its place is in the file or just after it; an end has a number from
+-- 20 to 26, and its bytes are in the room
 abbrev pub Small : List ℕ → ℕ → Result → Type 0
-Small file room (refusal n p) = p ≤ length file
-Small file room (end e n u b) = length b ≤ room
+Small file room (refusal n p) = (1 ≤ n) × (n ≤ 9) × (p ≤ length file)
+Small file room (end e n u b) = (20 ≤ e) × (e ≤ 26) × (length b ≤ room)
 
 read-small : (file : List ℕ) (L : Limits) (budget wanted room : ℕ) (r : Read Rules) → parse file ≡ r → Small file room (run-read r L budget wanted room)
 unfolding run-read ending
-read-small file L budget wanted room (refused n p) e = refused-inside file n p e
-read-small file L budget wanted room (read R seen at) e = run-roomy R L wanted room budget
+read-small file L budget wanted room (refused n p) e = let f = refused-inside file n p e in let a = f .least in (omega arith, f .most, f .inside)
+read-small file L budget wanted room (read R seen at) e = let (a, b) = run-range R L wanted room budget _ _ refl in (a, b, run-roomy R L wanted room budget)
 
 pub result-small : (file : List ℕ) (L : Limits) (budget wanted scratch room : ℕ) → Small file room (result file L budget wanted scratch room)
 unfolding result
 result-small file L budget wanted scratch room =
     let G : Result → Type 0 = Small file room in
-    if-by G _ (λ e. omega arith) (λ e. if-by G _ (λ f. omega arith) (λ f. if-by G _ (λ g. omega arith) (λ g. read-small file L budget wanted room (parse file) refl)))
+    if-by G _ (λ e. (omega arith, omega arith, omega arith)) (λ e. if-by G _ (λ f. (omega arith, omega arith, omega arith)) (λ f. if-by G _ (λ g. (omega arith, omega arith, omega arith)) (λ g. read-small file L budget wanted room (parse file) refl)))

@@ -8,12 +8,11 @@ use native.Mathlib.Nat.{mod-eq-of-lt, min-eq-left, min-eq-right}
 use lib.Dec.{ltb}
 use lib.ListN.{length, set, take, drop, replicate, length-replicate, take-append-drop}
 use lib.Seq.{set-out, length-take-le, drop-append-le}
-use borrow.Author.Tests.{lt-ltb, le-ltb, ltb-false}
-use Rattle.laws.specs.IfLaws.{if-by, if-true, if-false}
+use borrow.Author.Tests.{lt-ltb, le-ltb}
+use Rattle.laws.specs.IfLaws.{if-true, if-false}
 use Rattle.meaning.specs.If.{if_then_else_}
 use Rattle.meaning.specs.Moves.{Limits as Limits·defined}
 use Rattle.meaning.specs.Call.{Result, refusal, end, result, output-after}
-use Rattle.demands.specs.Rooms.{Small, result-small}
 use Rattle.meaning.specs.Embedded.{embedded, embedded-limits, embedded-scratch, room-limit, packed}
 use Rattle.meaning.specs.Outcome.{Said, refused-as, ended-as, says, to-say, end-number}
 use Rattle.meaning.specs.declared.Place.{Place}
@@ -24,6 +23,7 @@ use Rattle.meaning.specs.declared.Outcome.{Outcome}
 use Rattle.meaning.specs.declared.Outcome.the-variants.{Refused, Ended}
 use Rattle.search.specs.declared.Limits.{Limits}
 use Rattle.machine.specs.Calling.{Called, limits-of, result-of}
+use Rattle.embedded.specs.Promises.{Tight, embedded-tight}
 use Rattle.embedded.specs.Telling.{told-four, told-all, told, CallTells, packed-said, packed-of, embedded-in, EmbedRuns, EmbedTells}
 
 -- ---- the numbers of the ends
@@ -110,48 +110,33 @@ module _ (file : List ℕ) (budget wanted : ℕ) (o : List ℕ) where
       ap₂ (λ (L : Limits·defined) (n : ℕ). result file L budget wanted n (length o)) limits-are (length-replicate {A = ℕ} embedded-scratch 0) ∙ sym (if-false _ _ _ (le-ltb 4_000 (length file) h)) in
       record { outcome = a .outcome ∙ ap to-say e; output = a .bytes ∙ ap (λ (x : Result). output-after x o) e }
 
-  -- what fits the lower half
-  abbrev Half : Result → Type 0
-  Half (refusal n p) = p < 2 ^ 32
-  Half (end e n u b) = length b ≤ room-limit
-
-  half-small : (r : Result) → length o ≤ room-limit → length file ≤ 4_000 → Small file (length o) r → Half r
-  half-small (refusal n p) h l s = omega arith
-  half-small (end e n u b) h l s = omega arith
-
-  half : length o ≤ room-limit → Half (embedded-in file budget wanted (length o))
-  unfolding embedded-in
-  half h =
-      let good : Result = result file embedded-limits budget wanted embedded-scratch (length o) in
-      if-by Half (ltb 4_000 (length file)) {x = refusal 2 0} {y = good} (λ e. omega arith) (λ e. half-small good h (ltb-false 4_000 (length file) e) (result-small file embedded-limits budget wanted embedded-scratch (length o)))
-
-  packs : (r : Result) (x : Outcome) → Half r → says x ≡ to-say r → packed-of x ≡ packed r
+  packs : (r : Result) (x : Outcome) → Tight r → says x ≡ to-say r → packed-of x ≡ packed r
   unfolding packed-of packed-said packed to-say
-  packs (refusal n p) x h e = rw e (ap (n * 2 ^ 32 +_) (mod-eq-of-lt h))
-  packs (end e n u b) x h q = rw q (ap (e * 2 ^ 32 +_) (mod-eq-of-lt (omega arith)))
+  packs (refusal n p) x h e = rw e (ap (n * 2 ^ 32 +_) (mod-eq-of-lt (h .2)))
+  packs (end e n u b) x h q = let k = h .2 in rw q (ap (e * 2 ^ 32 +_) (mod-eq-of-lt (omega arith)))
 
   pub embed-all : (r : Outcome) (p : List ℕ) (n : ℕ) → length o ≤ 4_000_000_000 → EmbedRuns file budget wanted o r p → n ≡ packed-of r → EmbedTells file budget wanted o n p
   unfolding embedded embedded-in
   embed-all r p n h a e =
       let same : embedded-in file budget wanted (length o) ≡ embedded file budget wanted (length o) = ap (λ (k : ℕ). embedded-in file budget wanted k) (sym (min-eq-left h)) in
-      record { number = e ∙ packs _ r (half h) (a .outcome) ∙ ap packed same; output = a .output ∙ ap (λ (x : Result). output-after x o) same }
+      record { number = e ∙ packs _ r (embedded-tight file budget wanted (length o) h) (a .outcome) ∙ ap packed same; output = a .output ∙ ap (λ (x : Result). output-after x o) same }
 
 -- a part of the output, and what follows it
 drop-part : (k m : ℕ) (o : List ℕ) → k ≤ m → m ≤ length o → drop k (take m o) ++ drop m o ≡ drop k o
 drop-part k m o h l = let e = length-take-le m o l in sym (drop-append-le k (take m o) (drop m o) (omega arith)) ∙ ap (drop k) (take-append-drop m o)
 
 module _ (file : List ℕ) (budget wanted : ℕ) (o : List ℕ) where
-  part-after : (r : Result) → Half file budget wanted o r → room-limit ≤ length o → output-after r (take room-limit o) ++ drop room-limit o ≡ output-after r o
+  part-after : (r : Result) → Tight r → room-limit ≤ length o → output-after r (take room-limit o) ++ drop room-limit o ≡ output-after r o
   unfolding output-after
   part-after (refusal n p) h l = take-append-drop room-limit o
-  part-after (end e n u b) h l = append-assoc b (drop (length b) (take room-limit o)) (drop room-limit o) ∙ ap (b ++_) (drop-part (length b) room-limit o h l)
+  part-after (end e n u b) h l = append-assoc b (drop (length b) (take room-limit o)) (drop room-limit o) ∙ ap (b ++_) (drop-part (length b) room-limit o (h .2) l)
 
   pub embed-some : (r : Outcome) (p : List ℕ) (n : ℕ) → 4_000_000_000 < length o → EmbedRuns file budget wanted (take 4_000_000_000 o) r p → n ≡ packed-of r → EmbedTells file budget wanted o n (p ++ drop 4_000_000_000 o)
   unfolding embedded embedded-in
   embed-some r p n h a e =
       let l : length (take room-limit o) ≡ room-limit = length-take-le room-limit o (omega arith) in
       let same : embedded-in file budget wanted (length (take room-limit o)) ≡ embedded file budget wanted (length o) = ap (λ (k : ℕ). embedded-in file budget wanted k) (l ∙ sym (min-eq-right (omega arith))) in
-      let k = half file budget wanted (take room-limit o) (omega arith) in
+      let k = embedded-tight file budget wanted (length (take room-limit o)) (omega arith) in
       record {
         number = e ∙ packs file budget wanted (take room-limit o) _ r k (a .outcome) ∙ ap packed same;
         output = ap (_++ drop room-limit o) (a .output) ∙ part-after _ k (omega arith) ∙ ap (λ (x : Result). output-after x o) same;

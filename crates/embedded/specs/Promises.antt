@@ -1,12 +1,14 @@
--- What follows from the promises of the exported functions: one content of every buffer and one number, and the third demand for what
--- the embedded form wrote.
+-- What follows from the promises of the exported functions: one content of every buffer and one number, what the two halves of the number
+-- say, and the third demand for what the embedded form wrote.
 -- Assumes nothing.
-use Prim.Native.Nat.{ℕ, _+_, _*_, _^_, min}
+use Prim.Native.Nat.{ℕ, _+_, _*_, _/_, _%_, _^_, _≤_, _<_, min}
 use mathlib.Core.Path.{_≡_, refl, sym, ap, ap₂, _∙_}
 use mathlib.Core.List.{List, _++_}
 use native.Mathlib.Omega.{arith}
 use lib.Dec.{ltb}
+use native.Mathlib.Nat.{min-le-right}
 use lib.ListN.{length, drop}
+use borrow.Author.Tests.{ltb-false}
 use Rattle.laws.specs.IfLaws.{if-by}
 use Rattle.meaning.specs.If.{if_then_else_}
 use Rattle.meaning.specs.Rules.{Rules}
@@ -15,18 +17,54 @@ use Rattle.meaning.specs.Call.{Result, refusal, end, result, output-after}
 use Rattle.meaning.specs.Embedded.{embedded, embedded-limits, embedded-scratch, room-limit, packed}
 use Rattle.demands.specs.Proofs.{Uncut}
 use Rattle.demands.specs.Demands.{Says, Ends, Correct, Complete}
+use Rattle.demands.specs.Rooms.{Small, result-small}
 use Rattle.demands.specs.Theorems.{third-demand, third-demand-with-cut}
 use Rattle.search.specs.declared.Limits.{Limits}
-use Rattle.embedded.specs.Telling.{CallTells, EmbedTells}
+use Rattle.embedded.specs.Telling.{CallTells, embedded-in, EmbedTells}
 
 -- one content of scratch, output and result
 pub call-once : (file : List ℕ) (l : Limits) (budget wanted : ℕ) (w o r : List ℕ) (u v p q s t : List ℕ) → CallTells file l budget wanted w o r u p s → CallTells file l budget wanted w o r v q t → (u ≡ v) × (p ≡ q) × (s ≡ t)
 call-once file l budget wanted w o r u v p q s t a b = (a .scratch ∙ sym (b .scratch), a .output ∙ sym (b .output), a .words ∙ sym (b .words))
 
+-- ---- the numbers of a result: those of document 01's tables, and what fits the lower half
+abbrev pub Tight : Result → Type 0
+Tight (refusal n p) = (1 ≤ n) × (n ≤ 9) × (p < 2 ^ 32)
+Tight (end e n u b) = (20 ≤ e) × (e ≤ 26) × (length b ≤ room-limit)
+
+tight : (file : List ℕ) (room : ℕ) (r : Result) → length file ≤ 4_000 → room ≤ room-limit → Small file room r → Tight r
+tight file room (refusal n p) l h s = let k = s .2 in (s .0, s .1, omega arith)
+tight file room (end e n u b) l h s = let k = s .2 in (s .0, s .1, omega arith)
+
+pub embedded-tight : (file : List ℕ) (budget wanted room : ℕ) → room ≤ room-limit → Tight (embedded-in file budget wanted room)
+unfolding embedded-in
+embedded-tight file budget wanted room h =
+    let good : Result = result file embedded-limits budget wanted embedded-scratch room in
+    if-by Tight (ltb 4_000 (length file)) {x = refusal 2 0} {y = good} (λ e. (omega arith, omega arith, omega arith))
+    (λ e. tight file room good (ltb-false 4_000 (length file) e) h (result-small file embedded-limits budget wanted embedded-scratch room))
+
 module _ (file : List ℕ) (budget wanted : ℕ) (o : List ℕ) where
   -- one number and one content of the output
   pub run-once : (m n : ℕ) (p q : List ℕ) → EmbedTells file budget wanted o m p → EmbedTells file budget wanted o n q → (m ≡ n) × (p ≡ q)
   run-once m n p q a b = (a .number ∙ sym (b .number), a .output ∙ sym (b .output))
+
+  -- ---- the number taken apart: a refusal with its place, and the output as it was, or an end with the bytes written
+  pub data Apart (n : ℕ) (p : List ℕ) : Type 0 where
+    refused : embedded file budget wanted (length o) ≡ refusal (n / 2 ^ 32) (n % 2 ^ 32) → n / 2 ^ 32 ≤ 9 → p ≡ o → Apart n p
+    ended : (answers units : ℕ) (b : List ℕ) → embedded file budget wanted (length o) ≡ end (n / 2 ^ 32) answers units b → 20 ≤ n / 2 ^ 32 → n % 2 ^ 32 ≡ length b → p ≡ b ++ drop (length b) o → Apart n p
+
+  apart : (r : Result) → embedded file budget wanted (length o) ≡ r → Tight r → (n : ℕ) (p : List ℕ) → n ≡ packed r → p ≡ output-after r o → Apart n p
+  unfolding packed output-after
+  apart (refusal m q) e (a, b, c) n p f g =
+      let high : n / 2 ^ 32 ≡ m = omega arith in
+      let low : n % 2 ^ 32 ≡ q = omega arith in
+      refused (e ∙ ap₂ refusal (sym high) (sym low)) (omega arith) g
+  apart (end m k u w) e (a, b, c) n p f g =
+      let high : n / 2 ^ 32 ≡ m = omega arith in
+      ended k u w (e ∙ ap (λ (x : ℕ). end x k u w) (sym high)) (omega arith) (omega arith) g
+
+  pub run-apart : (n : ℕ) (p : List ℕ) → EmbedTells file budget wanted o n p → Apart n p
+  unfolding embedded embedded-in
+  run-apart n p a = apart (embedded file budget wanted (length o)) refl (embedded-tight file budget wanted (min (length o) room-limit) (min-le-right (length o) room-limit)) n p (a .number) (a .output)
 
   -- ---- an end
   module _ (R : Rules) (says : Says file R) (e answers units : ℕ) (b : List ℕ) (gives : embedded file budget wanted (length o) ≡ end e answers units b) (n : ℕ) (p : List ℕ) (a : EmbedTells file budget wanted o n p) where

@@ -104,7 +104,7 @@ module _ (file : List ℕ) (l : Limits) (budget wanted : ℕ) (w o : List ℕ) w
   came : (y : Result) → x ≡ y → Small file (length o) y → Came (to-say y) (scratch-after y (needed (length file) (limits-of l)) w) (output-after y o)
   unfolding to-say scratch-after output-after
   came (refusal n p) g s = tt
-  came (end e n u b) g s = record { written = b; gives = g; long = refl; within = s; scratch = refl; output-is = refl }
+  came (end e n u b) g s = record { written = b; gives = g; long = refl; within = s .2; scratch = refl; output-is = refl }
 
   pub called-ended : (e : End) (t : Totals) (v q : List ℕ) → Called file l budget wanted w o (Ended e t) v q → Left (t .answers) (t .units) (t .bytes) (end-number e) v q
   unfolding says
