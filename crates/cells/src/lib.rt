@@ -44,8 +44,8 @@ pub enum Hop {
 // Where the regions of scratch begin.
 pub struct Layout {
     pub firsts: u32,
-    pub clauses: u32,
     pub cells: u32,
+    pub clauses: u32,
     pub trail: u32,
     pub marks: u32,
     pub list: u32,

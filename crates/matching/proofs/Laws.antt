@@ -27,6 +27,15 @@ pub put-four-is : (w₀ w₁ w₂ w₃ w₄ : List ℕ) (at i j k a b c d : ℕ)
 unfolding put-four
 put-four-is w₀ w₁ w₂ w₃ w₄ at i j k a b c d p e q f r g s = rw (s, r, q, p, e, f, g) refl
 
+-- within the words no place wraps
+pub put-four-within : (w : List ℕ) (at a b c d : ℕ) → at + 3 < 2 ^ 64 → set (set (set (set w at a) (at + 1) b) (at + 2) c) (at + 3) d ≡ put-four w at a b c d
+unfolding put-four ahead
+put-four-within w at a b c d h =
+    let x : (at + 1) % 2 ^ 64 ≡ at + 1 = mod-eq-of-lt (omega arith) in
+    let y : (at + 2) % 2 ^ 64 ≡ at + 2 = mod-eq-of-lt (omega arith) in
+    let z : (at + 3) % 2 ^ 64 ≡ at + 3 = mod-eq-of-lt (omega arith) in
+    rw (x, y, z) refl
+
 pub held-read : (w : List ℕ) (at v i b : ℕ) → v ≡ getD w at 0 → i ≡ ahead at 1 → b ≡ getD w i 0 → _≡_ {A = Held} (record { place = record { 0 = v }; base = record { 0 = b } }) (held-at w at)
 unfolding held-at
 held-read w at v i b e f g = rw (e, g, f) refl

@@ -20,6 +20,15 @@ ghost use Rattle.matching.specs.Matching.{put-four, held-at, place-after
 pub fn put_four(w: &mut [u32], at: usize, a: u32, b: u32, c: u32, d: u32)
     ensures { λ _. ⌜ now (w .exit) ≡ put-four (now (w .entry)) at a b c d ⌝ }
 {
+    if at < w.len() {
+        if 3 < w.len() - at {
+            w[at] = a;
+            w[at + 1] = b;
+            w[at + 2] = c;
+            w[at + 3] = d;
+            return;
+        }
+    }
     put(w, at, a);
     put(w, on(at, 1), b);
     put(w, on(at, 2), c);
