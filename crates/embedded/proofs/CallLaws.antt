@@ -13,7 +13,7 @@ use Rattle.laws.specs.IfLaws.{if-true, if-false}
 use Rattle.meaning.specs.If.{if_then_else_}
 use Rattle.meaning.specs.Moves.{Limits as Limits·defined}
 use Rattle.meaning.specs.Call.{Result, refusal, end, result, output-after}
-use Rattle.meaning.specs.Embedded.{embedded, embedded-limits, embedded-scratch, room-limit, packed}
+use Rattle.meaning.specs.Embedded.{embedded-in, embedded, embedded-limits, embedded-scratch, room-limit, packed}
 use Rattle.meaning.specs.Outcome.{Said, refused-as, ended-as, says, to-say, end-number}
 use Rattle.meaning.specs.declared.Place.{Place}
 use Rattle.meaning.specs.declared.Totals.{Totals}
@@ -24,7 +24,7 @@ use Rattle.meaning.specs.declared.Outcome.the-variants.{Refused, Ended}
 use Rattle.search.specs.declared.Limits.{Limits}
 use Rattle.machine.specs.Calling.{Called, limits-of, result-of}
 use Rattle.embedded.specs.Promises.{Tight, embedded-tight}
-use Rattle.embedded.specs.Telling.{told-four, told-all, told, CallTells, packed-said, packed-of, embedded-in, EmbedRuns, EmbedTells}
+use Rattle.embedded.specs.Telling.{told-four, told-all, told, CallTells, packed-said, packed-of, EmbedRuns, EmbedTells}
 
 -- ---- the numbers of the ends
 module _ (e : End) where

@@ -14,13 +14,13 @@ use Rattle.meaning.specs.If.{if_then_else_}
 use Rattle.meaning.specs.Rules.{Rules}
 use Rattle.meaning.specs.Answers.{Answer, output}
 use Rattle.meaning.specs.Call.{Result, refusal, end, result, output-after}
-use Rattle.meaning.specs.Embedded.{embedded, embedded-limits, embedded-scratch, room-limit, packed}
+use Rattle.meaning.specs.Embedded.{embedded-in, embedded, embedded-limits, embedded-scratch, room-limit, packed}
 use Rattle.demands.specs.Proofs.{Uncut}
 use Rattle.demands.specs.Demands.{Says, Ends, Correct, Complete}
 use Rattle.demands.specs.Rooms.{Small, result-small}
 use Rattle.demands.specs.Theorems.{third-demand, third-demand-with-cut}
 use Rattle.search.specs.declared.Limits.{Limits}
-use Rattle.embedded.specs.Telling.{CallTells, embedded-in, EmbedTells}
+use Rattle.embedded.specs.Telling.{CallTells, EmbedTells}
 
 -- one content of scratch, output and result
 pub call-once : (file : List ℕ) (l : Limits) (budget wanted : ℕ) (w o r : List ℕ) (u v p q s t : List ℕ) → CallTells file l budget wanted w o r u p s → CallTells file l budget wanted w o r v q t → (u ≡ v) × (p ≡ q) × (s ≡ t)
@@ -63,13 +63,13 @@ module _ (file : List ℕ) (budget wanted : ℕ) (o : List ℕ) where
       ended k u w (e ∙ ap (λ (x : ℕ). end x k u w) (sym high)) (omega arith) (omega arith) g
 
   pub run-apart : (n : ℕ) (p : List ℕ) → EmbedTells file budget wanted o n p → Apart n p
-  unfolding embedded embedded-in
+  unfolding embedded
   run-apart n p a = apart (embedded file budget wanted (length o)) refl (embedded-tight file budget wanted (min (length o) room-limit) (min-le-right (length o) room-limit)) n p (a .number) (a .output)
 
   -- ---- an end
   module _ (R : Rules) (says : Says file R) (e answers units : ℕ) (b : List ℕ) (gives : embedded file budget wanted (length o) ≡ end e answers units b) (n : ℕ) (p : List ℕ) (a : EmbedTells file budget wanted o n p) where
     whole : result file embedded-limits budget wanted embedded-scratch (min (length o) room-limit) ≡ end e answers units b
-    unfolding embedded
+    unfolding embedded embedded-in
     whole =
         if-by (λ (x : Result). x ≡ end e answers units b → result file embedded-limits budget wanted embedded-scratch (min (length o) room-limit) ≡ end e answers units b) (ltb 4_000 (length file))
         (λ t q. let z : _≡_ {A = ℕ} 0 1 = cc in absurd (omega arith)) (λ t q. q) gives

@@ -3,11 +3,9 @@
 use Prim.Native.Nat.{ℕ, _+_, _*_, _%_, _^_, _≤_, _<_}
 use mathlib.Core.Path.{_≡_}
 use mathlib.Core.List.{List}
-use lib.Dec.{ltb}
 use lib.ListN.{length, set}
-use Rattle.meaning.specs.If.{if_then_else_}
-use Rattle.meaning.specs.Call.{Result, refusal, result, needed, output-after, scratch-after}
-use Rattle.meaning.specs.Embedded.{embedded, embedded-limits, embedded-scratch, packed}
+use Rattle.meaning.specs.Call.{needed, output-after, scratch-after}
+use Rattle.meaning.specs.Embedded.{embedded-in, embedded, packed}
 use Rattle.meaning.specs.Outcome.{Said, refused-as, ended-as, says, to-say}
 use Rattle.meaning.specs.declared.Outcome.{Outcome}
 use Rattle.search.specs.declared.Limits.{Limits}
@@ -41,12 +39,6 @@ unfoldable pub packed-of : Outcome → ℕ
 packed-of r = packed-said (says r)
 
 -- the embedded form where all of the output counts as room
-unfoldable pub embedded-in : List ℕ → ℕ → ℕ → ℕ → Result
-embedded-in file budget wanted room =
-    let good : Result = result file embedded-limits budget wanted embedded-scratch room in
-    if ltb 4_000 (length file) then refusal 2 0 else
-    good
-
 pub record EmbedRuns (file : List ℕ) (budget wanted : ℕ) (o : List ℕ) (r : Outcome) (p : List ℕ) : Type 0 where
   pub outcome : says r ≡ to-say (embedded-in file budget wanted (length o))
   pub output : p ≡ output-after (embedded-in file budget wanted (length o)) o

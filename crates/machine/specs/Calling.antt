@@ -19,10 +19,22 @@ use Rattle.reading.specs.declared.Checked.the-variants.{Good}
 use Rattle.reading.specs.Verdict.{verdict}
 use Rattle.simulation.specs.Rep.{layout-of}
 
+-- ---- the promise
 -- the run limits, as the definition has them
 abbrev pub limits-of : Limits → Limits·defined
 limits-of l = record { cells = l .cells; steps = l .steps; work = l .work }
 
+-- the result that the definition gives
+abbrev pub result-of : List ℕ → Limits → ℕ → ℕ → List ℕ → List ℕ → Result
+result-of file l budget wanted w o = result file (limits-of l) budget wanted (length w) (length o)
+
+-- the whole call: what it says, and what is in scratch and in the output after it
+pub record Called (file : List ℕ) (l : Limits) (budget wanted : ℕ) (w o : List ℕ) (r : Outcome) (v q : List ℕ) : Type 0 where
+  pub outcome : says r ≡ to-say (result-of file l budget wanted w o)
+  pub words : v ≡ scratch-after (result-of file l budget wanted w o) (needed (length file) (limits-of l)) w
+  pub bytes : q ≡ output-after (result-of file l budget wanted w o) o
+
+-- ---- between the parts of the call
 abbrev pub allowed : Limits → Bool
 allowed l = in-range (limits-of l)
 
@@ -30,7 +42,7 @@ allowed l = in-range (limits-of l)
 unfoldable pub given-of : ℕ → Limits → ℕ → ℕ → Place → Given
 given-of F l functions predicates query = record { lay = layout-of F predicates (l .cells) (l .steps); limits = l; functions = functions; query = query }
 
--- what the call tests before it reads the file
+-- what has been tested before the file is read
 pub record Tested (file : List ℕ) (l : Limits) (w : List ℕ) : Type 0 where
   pub in-limits : allowed l ≡ true
   pub short : length file ≤ file-limit
@@ -45,13 +57,3 @@ pub record Can (file : List ℕ) (l : Limits) (c : Counts) (w : List ℕ) : Type
 pub record RunsGood (file : List ℕ) (l : Limits) (budget wanted : ℕ) (o : List ℕ) (r : Outcome) (q : List ℕ) : Type 0 where
   pub outcome : says r ≡ to-say (run-read (parse file) (limits-of l) budget wanted (length o))
   pub bytes : q ≡ output-after (run-read (parse file) (limits-of l) budget wanted (length o)) o
-
--- the result that the definition gives
-abbrev pub result-of : List ℕ → Limits → ℕ → ℕ → List ℕ → List ℕ → Result
-result-of file l budget wanted w o = result file (limits-of l) budget wanted (length w) (length o)
-
--- the whole call: what it says, and what is in scratch and in the output after it
-pub record Called (file : List ℕ) (l : Limits) (budget wanted : ℕ) (w o : List ℕ) (r : Outcome) (v q : List ℕ) : Type 0 where
-  pub outcome : says r ≡ to-say (result-of file l budget wanted w o)
-  pub words : v ≡ scratch-after (result-of file l budget wanted w o) (needed (length file) (limits-of l)) w
-  pub bytes : q ≡ output-after (result-of file l budget wanted w o) o

@@ -17,16 +17,19 @@ embedded-limits = record { cells = 1_000; steps = 400; work = 200 }
 abbrev pub embedded-scratch : ℕ
 embedded-scratch = 16_064
 
+-- "for F up to 4,000 (else refusal 2)", where all of the output counts as room
+unfoldable pub embedded-in : List ℕ → ℕ → ℕ → ℕ → Result
+embedded-in file budget wanted room =
+    let good : Result = result file embedded-limits budget wanted embedded-scratch room in
+    if ltb 4_000 (length file) then refusal 2 0 else
+    good
+
 -- "Of the output at most 4,000,000,000 bytes count as room"
 abbrev pub room-limit : ℕ
 room-limit = 4_000_000_000
 
--- "for F up to 4,000 (else refusal 2)"
 unfoldable pub embedded : List ℕ → ℕ → ℕ → ℕ → Result
-embedded file budget wanted room =
-    let good : Result = result file embedded-limits budget wanted embedded-scratch (min room room-limit) in
-    if ltb 4_000 (length file) then refusal 2 0 else
-    good
+embedded file budget wanted room = embedded-in file budget wanted (min room room-limit)
 
 -- "end or refusal in the upper half; in the lower the bytes written after an end, the place after a refusal"
 unfoldable pub packed : Result → ℕ
