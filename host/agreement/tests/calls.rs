@@ -1,12 +1,14 @@
 //! Calls of the library: its limits, and agreement with the second program on
 //! many calls.
 
+use std::time::{Duration, Instant};
+
 use agreement::calls::{compare, from_seed, thresholds, Both, Call, Tally};
 use agreement::library::{call, run};
 use second::assemble::file;
 use second::call::{Case, Limits, Outcome};
 use second::damage::length;
-use second::examples::naive_reverse;
+use second::examples::{naive_reverse, shared, shared_answer, shared_by_two, shared_inside_itself};
 use second::generate::good_program;
 use second::random::Random;
 use second::random_programs::wide_and_deep;
@@ -53,6 +55,19 @@ fn refusals_before_and_in_the_file() {
     assert_eq!(library(&ample(&APPEND[..69])), refused(4, 69));
     let longer = [APPEND, &[9]].concat();
     assert_eq!(library(&ample(&longer)), refused(9, 70));
+}
+
+/// 4^15 is 2^30: no value is walked as a tree. A goal `twice` costs 3 units, and
+/// 3 for each `double` that it calls; each `eq` costs 3 more.
+#[test]
+fn values_of_2_to_the_30_leaves_come_back_at_once() {
+    let start = Instant::now();
+    let ended = |text: String| library(&ample(&file(&text))).0;
+    assert_eq!(ended(shared(15)), [20, 0, 1, 1 + 15 * 9]);
+    assert_eq!(ended(shared_answer(15)), [26, 0, 0, 15 * 9]);
+    assert_eq!(ended(shared_inside_itself(15)), [20, 0, 0, 1 + 15 * 9 + 3]);
+    assert_eq!(ended(shared_by_two(15)), [20, 0, 1, 1 + 15 * 15]);
+    assert!(start.elapsed() < Duration::from_secs(1));
 }
 
 #[test]
