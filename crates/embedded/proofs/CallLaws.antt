@@ -24,6 +24,7 @@ use Rattle.meaning.specs.declared.Outcome.the-variants.{Refused, Ended}
 use Rattle.search.specs.declared.Limits.{Limits}
 use Rattle.machine.specs.Calling.{Called, limits-of, result-of}
 use Rattle.embedded.specs.Promises.{Tight, embedded-tight}
+use Rattle.embedded.specs.Checking.{halves-of}
 use Rattle.embedded.specs.Telling.{told-four, told-all, told, CallTells, packed-said, packed-of, EmbedRuns, EmbedTells}
 
 -- ---- the numbers of the ends
@@ -77,13 +78,13 @@ module _ (r : Outcome) where
   unfolding told says
   ended-told e t k l v q f h = rw (q, ← f) h
 
-  pub refused-packed : (n : ℕ) (p : Place) → r ≡ Refused n p → n * 2 ^ 32 + p .0 % 2 ^ 32 ≡ packed-of r
+  pub refused-packed : (n m : ℕ) (p : Place) → r ≡ Refused n p → m ≡ halves-of n (p .0) → m ≡ packed-of r
   unfolding packed-of packed-said says
-  refused-packed n p q = rw q refl
+  refused-packed n m p q h = rw q h
 
-  pub ended-packed : (e : End) (t : Totals) (k : ℕ) → r ≡ Ended e t → k ≡ end-number e → k * 2 ^ 32 + t .bytes % 2 ^ 32 ≡ packed-of r
+  pub ended-packed : (e : End) (t : Totals) (k m : ℕ) → r ≡ Ended e t → k ≡ end-number e → m ≡ halves-of k (t .bytes) → m ≡ packed-of r
   unfolding packed-of packed-said says
-  ended-packed e t k q f = rw (q, f) refl
+  ended-packed e t k m q f h = rw (q, ← f) h
 
 -- ---- the calls
 pub call-tells : (file : List ℕ) (l : Limits) (budget wanted : ℕ) (w o result : List ℕ) (r : Outcome) (v p n : List ℕ) → Called file l budget wanted w o r v p → n ≡ told (says r) result → CallTells file l budget wanted w o result v p n
@@ -111,7 +112,7 @@ module _ (file : List ℕ) (budget wanted : ℕ) (o : List ℕ) where
       record { outcome = a .outcome ∙ ap to-say e; output = a .bytes ∙ ap (λ (x : Result). output-after x o) e }
 
   packs : (r : Result) (x : Outcome) → Tight r → says x ≡ to-say r → packed-of x ≡ packed r
-  unfolding packed-of packed-said packed to-say
+  unfolding packed-of packed-said halves-of packed to-say
   packs (refusal n p) x h e = rw e (ap (n * 2 ^ 32 +_) (mod-eq-of-lt (h .2)))
   packs (end e n u b) x h q = let k = h .2 in rw q (ap (e * 2 ^ 32 +_) (mod-eq-of-lt (omega arith)))
 

@@ -1,6 +1,6 @@
 -- What the exported calls tell a C program.
 -- Assumes nothing.
-use Prim.Native.Nat.{ℕ, _+_, _*_, _%_, _^_, _≤_, _<_}
+use Prim.Native.Nat.{ℕ, _+_}
 use mathlib.Core.Path.{_≡_}
 use mathlib.Core.List.{List}
 use lib.ListN.{length, set}
@@ -10,6 +10,7 @@ use Rattle.meaning.specs.Outcome.{Said, refused-as, ended-as, says, to-say}
 use Rattle.meaning.specs.declared.Outcome.{Outcome}
 use Rattle.search.specs.declared.Limits.{Limits}
 use Rattle.machine.specs.Calling.{limits-of, result-of}
+use Rattle.embedded.specs.Checking.{halves-of}
 
 -- four words, from an index on; those that the result does not hold are left out
 unfoldable pub told-four : ℕ → ℕ → ℕ → ℕ → ℕ → List ℕ → List ℕ
@@ -32,8 +33,8 @@ pub record CallTells (file : List ℕ) (l : Limits) (budget wanted : ℕ) (w o r
 
 -- an outcome as one number; place and bytes by their remainders, which are place and bytes themselves
 unfoldable pub packed-said : Said → ℕ
-packed-said (refused-as n p) = n * 2 ^ 32 + p % 2 ^ 32
-packed-said (ended-as e answers units bytes) = e * 2 ^ 32 + bytes % 2 ^ 32
+packed-said (refused-as n p) = halves-of n p
+packed-said (ended-as e answers units bytes) = halves-of e bytes
 
 unfoldable pub packed-of : Outcome → ℕ
 packed-of r = packed-said (says r)

@@ -12,8 +12,15 @@ use told::tell;
 ghost use mathlib.Core.Path.{_≡_};
 ghost use Rattle.meaning.specs.Reading.{parse};
 ghost use Rattle.reading.specs.Verdict.{verdict};
-ghost use Rattle.embedded.specs.Checking.{checked-number};
+ghost use Rattle.embedded.specs.Checking.{halves-of, checked-number};
 ghost use Rattle.embedded.specs.Telling.{packed-of, CallTells, EmbedRuns, EmbedTells};
+
+// Two numbers in the halves of one, the lower by its remainder.
+fn halves(high: u32, low: u64) -> u64
+    ensures { λ r. ⌜ r ≡ halves-of high low ⌝ }
+{
+    (high as u64) * 4294967296 + low % 4294967296
+}
 
 // A verdict as one number: 0 where the file is good; else the refusal in the upper half, the place in the lower.
 // A place of a file in use is at most 60,000, so its remainder by 2^32 is the place itself.
@@ -21,7 +28,7 @@ fn number(c: Checked) -> u64
     ensures { λ r. ⌜ r ≡ checked-number c ⌝ }
 {
     match c {
-        Checked::Refused(n, p) => (n as u64) * 4294967296 + (p.0 as u64) % 4294967296,
+        Checked::Refused(n, p) => halves(n, p.0 as u64),
         Checked::Good(_) => 0,
     }
 }
@@ -65,8 +72,8 @@ fn pack(r: Outcome) -> u64
     ensures { λ n. ⌜ n ≡ packed-of r ⌝ }
 {
     match r {
-        Outcome::Refused(n, p) => (n as u64) * 4294967296 + (p.0 as u64) % 4294967296,
-        Outcome::Ended(e, t) => (end_number(e) as u64) * 4294967296 + (t.bytes as u64) % 4294967296,
+        Outcome::Refused(n, p) => halves(n, p.0 as u64),
+        Outcome::Ended(e, t) => halves(end_number(e), t.bytes as u64),
     }
 }
 
