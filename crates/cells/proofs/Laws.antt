@@ -1,6 +1,6 @@
 -- What each return and each turn of a loop of the functions over cells says.
 -- Assumes nothing.
-use Prim.Native.Nat.{ℕ, zero, suc, _+_, _-_, _*_, _/_, _%_, _≤_, _<_}
+use Prim.Native.Nat.{ℕ, zero, suc, _+_, _-_, _/_, _%_, _≤_, _<_}
 use mathlib.Core.Path.{_≡_, refl, sym, ap, _∙_}
 use mathlib.Core.List.{List}
 use mathlib.Core.Bool.{Bool, true, false}
@@ -8,12 +8,11 @@ use native.Mathlib.Omega.{arith}
 use lib.Dec.{eqb, leb}
 use lib.ListN.{length, getD, set, length-set}
 use borrow.Author.Tests.{eq-eqb, ne-eqb, le-leb, lt-leb}
-use Rattle.meaning.specs.If.{if_then_else_}
 use Rattle.meaning.specs.Reading.{byte, two-bytes}
 use Rattle.meaning.specs.declared.CellNumber.{CellNumber}
 use Rattle.words.specs.Words.{plus, ahead}
 use Rattle.laws.specs.IfLaws.{if-true, if-false}
-use Rattle.cells.specs.Cells.{word-of, cell-of, cell-at, node-of, hop-cell, hop-node, hop-of, hopped, followed, undone, freed, Visit, same, free, known, listed}
+use Rattle.cells.specs.Cells.{cell-of, cell-at, node-of, hop-cell, hop-node, hop-of, hopped, followed, undone, freed, Visit, same, free, known, listed}
 use Rattle.cells.specs.Cells.{Meet, variable, function, width-of, Scan, over, met, on, ScanHeld, LookInto, was-free, was-bound, Looks, all, found, none, next, Inside, looks}
 use Rattle.cells.specs.declared.Held.{Held}
 use Rattle.cells.specs.declared.Cell.{Cell}

@@ -1,18 +1,16 @@
 -- What the inner check comes to is one: one result, one content of scratch.
 -- Assumes nothing.
 use Prim.Native.Nat.{ℕ}
-use mathlib.Core.Path.{_≡_, refl, sym, _∙_, subst}
+use mathlib.Core.Path.{_≡_, refl, sym, _∙_}
 use mathlib.Core.Bool.{Bool, true, false, false≢true}
 use mathlib.Core.List.{List}
 use native.Mathlib.Omega.{arith}
-use lib.ListN.{getD}
-use Rattle.words.specs.Words.{ahead}
 use Rattle.cells.specs.declared.Held.{Held}
 use Rattle.cells.specs.declared.Cell.{Cell}
 use Rattle.cells.specs.declared.Cell.the-variants.{Free, Bound}
 use Rattle.cells.specs.declared.Layout.{Layout}
 use Rattle.cells.specs.declared.Seen.{Seen}
-use Rattle.cells.specs.Cells.{Visit, same, free, known, listed, Meet, variable, function, width-of, Scan, over, met, on, ScanHeld, LookInto, was-free, was-bound, Looks, all, found, none, next, Inside, looks}
+use Rattle.cells.specs.Cells.{Visit, same, free, known, listed, Meet, variable, function, Scan, over, met, on, LookInto, was-free, was-bound, Looks, all, found, none, next, Inside, looks}
 
 -- the same result, the same words
 abbrev pub Once : {A : Type 0} → A → A → List ℕ → List ℕ → Type 0

@@ -1,15 +1,12 @@
 -- The third demand at case A, from its 70 bytes: app(X, Y, [a]) has these two proofs and no other.
 -- Assumes nothing.
 use Prim.Native.Nat.{ℕ}
-use mathlib.Core.Path.{_≡_, refl, ap, sym, _∙_, subst}
+use mathlib.Core.Path.{_≡_, refl, sym, _∙_, subst}
 use mathlib.Core.Logic.{_⊎_, inl, inr, _↔_}
 use mathlib.Core.List.{List, [], _∷_, _++_}
-use Rattle.meaning.specs.Terms.{Term, var, app, Terms, []ₜ, _∷ₜ_}
-use Rattle.meaning.specs.Rules.{Call, Goal, call, cut, Clause, Rules}
-use Rattle.meaning.specs.Reading.{Read, read, parse}
+use Rattle.meaning.specs.Terms.{Term, var, app, []ₜ, _∷ₜ_}
+use Rattle.meaning.specs.Rules.{Call, call, Rules}
 use Rattle.meaning.specs.Answers.{Answer, output}
-use Rattle.meaning.specs.Moves.{Limits}
-use Rattle.meaning.specs.Call.{Result, end, result}
 use Rattle.demands.specs.Proofs.{Each, Values, Allows, IsProof, Matches, Uncut}
 use Rattle.demands.specs.Demands.{Says, Listed, Complete, Ends}
 use Rattle.demands.specs.Computes.{computes}

@@ -5,8 +5,8 @@ use Prim.Native.Nat.{ℕ}
 use mathlib.Core.Path.{_≡_, refl}
 use mathlib.Core.List.{List, [], _∷_, _++_, map}
 use Rattle.meaning.specs.Moves.{Limits}
-use Rattle.meaning.specs.Call.{Result, refusal, end, result, needed}
-use Rattle.meaning.specs.Embedded.{embedded, packed, program, line}
+use Rattle.meaning.specs.Call.{Result, refusal, end, result}
+use Rattle.meaning.specs.Embedded.{program, line}
 use Rattle.demands.specs.Computes.{computes}
 
 pub record Case : Type 0 where

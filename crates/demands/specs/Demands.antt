@@ -1,18 +1,18 @@
 -- What the machine's definition promises, each demand a type of its own. A reader needs `Proofs` and document 01's definitions, and no
 -- proof: that each holds is in `Theorems`.
 -- Assumes nothing.
-use Prim.Native.Nat.{ℕ, _≤_}
+use Prim.Native.Nat.{ℕ}
 use mathlib.Core.Path.{_≡_}
 use mathlib.Core.Logic.{_↔_}
 use mathlib.Core.List.{List, [], _∷_}
 use lib.ListN.{length}
-use Rattle.meaning.specs.Terms.{Term, Terms, count}
+use Rattle.meaning.specs.Terms.{Term}
 use Rattle.meaning.specs.Rules.{Rules}
-use Rattle.meaning.specs.Reading.{Read, read, parse}
+use Rattle.meaning.specs.Reading.{read, parse}
 use Rattle.meaning.specs.Answers.{Answer, output}
 use Rattle.meaning.specs.Moves.{Limits}
 use Rattle.meaning.specs.Call.{Result, end, result, needed, output-after, scratch-after}
-use Rattle.demands.specs.Proofs.{Each, Some, Wells, Values, Allows, IsProof, Matches, Before, WellFormed, Uncut}
+use Rattle.demands.specs.Proofs.{Each, Some, Values, Allows, IsProof, Matches, Before, WellFormed, Uncut}
 
 -- the file is good, and says these rules
 abbrev pub Says : List ℕ → Rules → Type 0

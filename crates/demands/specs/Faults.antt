@@ -1,18 +1,17 @@
 -- A refusal of a file has a number of document 01's table, and its place is a place of the file, or the place after it.
 -- Assumes nothing.
-use Prim.Native.Nat.{ℕ, zero, suc, _+_, _≤_, _<_}
-use mathlib.Core.Path.{_≡_, refl, subst}
+use Prim.Native.Nat.{ℕ, zero, suc, _≤_}
+use mathlib.Core.Path.{_≡_, subst}
 use mathlib.Core.Bool.{Bool, true, false}
-use mathlib.Core.List.{List, [], _∷_, _++_}
+use mathlib.Core.List.{List, []}
 use native.Mathlib.Omega.{arith}
-use lib.ListN.{length, getD}
-use borrow.Author.Tests.{ltb-false, leb-true, leb-false}
-use Rattle.meaning.specs.If.{if_then_else_}
-use Rattle.meaning.specs.Terms.{Term, Terms}
+use lib.ListN.{length}
+use borrow.Author.Tests.{ltb-false}
+use Rattle.meaning.specs.Terms.{Term}
 use Rattle.meaning.specs.Kinds.{a-function, level-limit}
 use Rattle.meaning.specs.Rules.{Goal, Clause, Rules}
 use Rattle.meaning.specs.Reading.{Read, refused, read, Reader, after, _>>=_, _>>_, give, refuse, need, none-seen, all-seen, terms, goals, term-due, goal-due, end-due, item-due}
-use Rattle.meaning.specs.Reading.{byte, next, variable, applied, term, arguments, called, goal, clause, query, no-more, items, parse}
+use Rattle.meaning.specs.Reading.{next, variable, applied, term, arguments, called, goal, clause, query, no-more, items, parse}
 use Rattle.laws.specs.IfLaws.{if-by}
 
 module _ (file : List ℕ) where

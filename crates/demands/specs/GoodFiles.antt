@@ -2,16 +2,15 @@
 -- Assumes nothing.
 use Prim.Native.Nat.{ℕ, zero, suc, _+_, _≤_, _<_}
 use mathlib.Core.Path.{_≡_, refl, ap, sym, subst, _∙_}
-use mathlib.Core.Bool.{Bool, true, false, _&&_}
+use mathlib.Core.Bool.{Bool, true, false}
 use mathlib.Core.List.{List, [], _∷_, _++_}
 use mathlib.Core.Option.{some}
 use native.Mathlib.Omega.{arith}
 use lib.Dec.{ltb, leb, eqb}
 use lib.ListN.{length, getD, getElem?}
 use borrow.Author.Tests.{ltb-true, leb-true, leb-false, eqb-true, not-false}
-use Rattle.meaning.specs.If.{if_then_else_}
 use Rattle.meaning.specs.Terms.{Term, count}
-use Rattle.meaning.specs.Kinds.{a-function, a-predicate, a-clause, a-query, level-limit, arity-limit, function-limit, predicate-limit}
+use Rattle.meaning.specs.Kinds.{a-function, a-clause, a-query, level-limit, arity-limit, function-limit, predicate-limit}
 use Rattle.meaning.specs.Rules.{Call, Goal, call, cut, Clause, Rules}
 use Rattle.meaning.specs.Reading.{Read, refused, read, Reader, after, _>>=_, _>>_, give, refuse, need, terms, goals, term-due, goal-due, item-due}
 use Rattle.meaning.specs.Reading.{byte, next, variable, applied, term, arguments, called, goal, clause, query, items, parse}

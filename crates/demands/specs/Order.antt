@@ -3,15 +3,13 @@
 use Prim.Native.Nat.{ℕ, suc, zero, _+_, _-_, _≤_, _<_}
 use mathlib.Core.Path.{_≡_, refl, ap, sym, _∙_, subst}
 use mathlib.Core.Logic.{_⊎_, inl, inr}
-use mathlib.Core.Bool.{Bool, true, false}
 use mathlib.Core.List.{List, [], _∷_, _++_, append-assoc}
-use mathlib.Core.Option.{Option, none, some, Option·some-injective}
+use mathlib.Core.Option.{some, Option·some-injective}
 use native.Mathlib.Omega.{arith}
 use lib.Dec.{eqb}
 use lib.ListN.{getElem?, drop, length}
 use borrow.Author.Tests.{eqb-true, eqb-false}
-use Rattle.meaning.specs.If.{if_then_else_}
-use Rattle.meaning.specs.Rules.{Call, Clause}
+use Rattle.meaning.specs.Rules.{Clause}
 use Rattle.meaning.specs.Moves.{Numbered, Choice, choice, clauses-of, keep}
 use Rattle.demands.specs.Proofs.{Each, Some, Before}
 use Rattle.laws.specs.IfLaws.{if-by}

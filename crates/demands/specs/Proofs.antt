@@ -4,7 +4,7 @@ use Prim.Native.Nat.{ℕ, _<_}
 use mathlib.Core.Path.{_≡_}
 use mathlib.Core.Logic.{_⊎_}
 use mathlib.Core.List.{List, [], _∷_, _++_}
-use mathlib.Core.Option.{Option, some}
+use mathlib.Core.Option.{some}
 use lib.ListN.{getElem?}
 use Rattle.meaning.specs.Terms.{Term, var, app, Terms, []ₜ, _∷ₜ_, count, insts, row}
 use Rattle.meaning.specs.Rules.{Call, Goal, call, cut, Clause, Rules}

@@ -1,15 +1,14 @@
 -- Numbering the free variables of an answer changes none of its instances.
 -- Assumes nothing.
-use Prim.Native.Nat.{ℕ, suc, zero, _+_}
-use mathlib.Core.Path.{_≡_, refl, ap, sym, _∙_}
+use Prim.Native.Nat.{ℕ, _+_}
+use mathlib.Core.Path.{_≡_, ap, sym, _∙_}
 use mathlib.Core.Logic.{_⊎_, inl, inr}
-use mathlib.Core.Bool.{Bool, true, false, _||_}
+use mathlib.Core.Bool.{true}
 use mathlib.Core.List.{List, [], _∷_, _++_}
 use lib.Dec.{eqb}
 use lib.ListN.{getD}
 use borrow.Author.Tests.{eqb-true, eqb-false}
 use native.Mathlib.Omega.{arith}
-use Rattle.meaning.specs.If.{if_then_else_}
 use Rattle.meaning.specs.Terms.{Term, var, app, Terms, []ₜ, _∷ₜ_, inst, insts}
 use Rattle.meaning.specs.Rules.{Rules}
 use Rattle.meaning.specs.Answers.{has, appear, appears, index, renumbered}

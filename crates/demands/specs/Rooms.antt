@@ -1,22 +1,19 @@
 -- The bytes of a run never pass the room, and a refusal's place is in the file or just after it.
 -- Assumes nothing.
-use Prim.Native.Nat.{ℕ, zero, suc, _+_, _-_, _≤_, _<_}
-use mathlib.Core.Path.{_≡_, refl, ap, sym, _∙_, subst}
-use mathlib.Core.Bool.{Bool, true, false, not}
+use Prim.Native.Nat.{ℕ, zero, suc, _+_, _-_, _≤_}
+use mathlib.Core.Path.{_≡_, refl, ap, sym, _∙_}
 use mathlib.Core.List.{List, [], _∷_, _++_, append-nil, append-assoc}
 use native.Mathlib.Omega.{arith}
-use lib.Dec.{ltb, eqb}
+use lib.Dec.{ltb}
 use lib.ListN.{length, length-append}
 use borrow.Author.Tests.{ltb-false}
-use Rattle.meaning.specs.If.{if_then_else_}
-use Rattle.meaning.specs.Terms.{Term, var, app, inst, occurs}
+use Rattle.meaning.specs.Terms.{Term, var, app}
 use Rattle.meaning.specs.Rules.{Rules}
-use Rattle.meaning.specs.Store.{value, follow}
 use Rattle.meaning.specs.Reading.{Read, refused, read, parse}
 use Rattle.meaning.specs.Answers.{Answer, Piece, piece, pieces, bytes-of, bytes, output, Fit, fits, stops, fitting}
 use Rattle.meaning.specs.Moves.{Limits, Open, goal, cut-to, cut-idle, Derivation, Numbered, Choice, choice, Pair, Move, trying, taking, cutting, Done, State, ended, due}
 use Rattle.meaning.specs.Moves.{nothing, spend, list, pairs, keep, fail, answer, answered, put-out, answering, take-goal, go-on, matching, binding, compared, take-pair, try-head, move, start, run}
-use Rattle.meaning.specs.Call.{Result, refusal, end, in-range, needed, ending, run-read, result}
+use Rattle.meaning.specs.Call.{Result, refusal, end, ending, run-read, result}
 use Rattle.laws.specs.IfLaws.{if-by}
 use Rattle.demands.specs.Faults.{refused-inside}
 use Rattle.demands.specs.Stops.{run-range}

@@ -3,28 +3,26 @@
 use Prim.Native.Nat.{ℕ, suc, zero, _+_, _-_, _≤_, _<_}
 use mathlib.Core.Path.{_≡_, refl, ap, ap₂, sym, _∙_, subst}
 use mathlib.Core.Logic.{_⊎_, inl, inr, _↔_, _≢_}
-use mathlib.Core.Bool.{Bool, true, false, not}
+use mathlib.Core.Bool.{not}
 use mathlib.Core.List.{List, [], _∷_, _++_, map, append-nil, append-assoc}
-use mathlib.Core.Option.{some, Option·some-injective}
+use mathlib.Core.Option.{Option·some-injective}
 use native.Mathlib.Omega.{arith}
 use lib.Dec.{ltb, eqb}
 use lib.ListN.{length, drop, getElem?}
 use borrow.Author.Tests.{eqb-true, eqb-false, not-true, not-false}
-use Rattle.meaning.specs.If.{if_then_else_}
-use Rattle.meaning.specs.Terms.{Term, var, app, Terms, count, inst, insts, occurs, row}
-use Rattle.meaning.specs.Rules.{Call, Goal, call, cut, Clause, Rules}
-use Rattle.meaning.specs.Store.{Store, empty, bind, value, follow}
-use Rattle.meaning.specs.Answers.{Answer, renumbered, pieces, output, Fit, fits, stops, fitting}
+use Rattle.meaning.specs.Terms.{Term, var, app, Terms, count, inst, insts, occurs}
+use Rattle.meaning.specs.Rules.{Call, Goal, call, cut, Rules}
+use Rattle.meaning.specs.Store.{Store, value, follow}
+use Rattle.meaning.specs.Answers.{pieces, output, Fit, fits, stops}
 use Rattle.meaning.specs.Moves.{Limits, Open, goal, cut-to, cut-idle, Derivation, Numbered, Choice, choice, Pair, Move, trying, taking, cutting, Done, State, ended, due}
 use Rattle.meaning.specs.Moves.{nothing, spend, list, clauses-of, over, body-goal, query-goal, pairs, with-goals, with-binding, with-step, keep, fail, answer, answered, put-out, answering, take-goal, go-on, matching, binding, compared, take-pair, try-head, move, start, run}
-use Rattle.demands.specs.Proofs.{Each, Some, IsProof, Before, WellFormed, WellClause, NoCut, Uncut}
-use Rattle.demands.specs.Demands.{Right}
+use Rattle.demands.specs.Proofs.{Each, Some, IsProof, WellFormed, WellClause, NoCut, Uncut}
 use Rattle.laws.specs.IfLaws.{if-by}
 use Rattle.demands.specs.TermLaws.{In, Ins, occurs-true, occurs-false, no-loop}
-use Rattle.demands.specs.StoreLaws.{Sound, Free, Solves, solves-values, solves-follow, value-free, follow-free}
-use Rattle.demands.specs.WellLaws.{Good, GoodPairs, GoodStore, follow-good, pairs-good, append-good, goods-more, Agree, agree-append, pairs-agree}
+use Rattle.demands.specs.StoreLaws.{Free, Solves, solves-values, solves-follow, value-free, follow-free}
+use Rattle.demands.specs.WellLaws.{Good, GoodPairs, follow-good, pairs-good, append-good, goods-more, Agree, agree-append, pairs-agree}
 use Rattle.demands.specs.Ways.{Under, todo, GoodAt, Exact, asked, asked-good, asked-exact, with-goal, OfGoal, head-pairs, exact-none, exact-pairs, exact-bind, exact-goals, exact-goal, exact-step, exact-answer, answer-right, step-good, over-good}
-use Rattle.demands.specs.Order.{each-at, some-map, each-drop, some-drop, clauses-known, clauses-ascend, clauses-all, Ascends, InChoice, InChoices, Past, Stacked, StackedFrom, stacked-from, stacked-drop, before-choices, keep-all}
+use Rattle.demands.specs.Order.{each-at, some-map, each-drop, some-drop, clauses-known, clauses-ascend, clauses-all, Ascends, InChoice, InChoices, Stacked, StackedFrom, stacked-from, stacked-drop, before-choices, keep-all}
 use Rattle.demands.specs.Stops.{fitting-unfit, unfit-range}
 use Rattle.demands.specs.Sofar.{Sofar, sofar-none, sofar-less, sofar-answer, Fine, sofar-fine}
 

@@ -2,12 +2,12 @@
 -- all that are open; without cut every proof is listed or open.
 -- Assumes nothing.
 use Prim.Native.Nat.{ℕ}
-use mathlib.Core.Path.{_≡_, refl, sym, _∙_, subst}
+use mathlib.Core.Path.{_≡_, sym}
 use mathlib.Core.Logic.{_⊎_, inl, inr}
 use mathlib.Core.List.{List, [], _∷_, _++_}
 use Rattle.meaning.specs.Rules.{Rules}
 use Rattle.meaning.specs.Answers.{Answer}
-use Rattle.demands.specs.Proofs.{Each, Some, IsProof, Before, Uncut}
+use Rattle.demands.specs.Proofs.{Each, IsProof, Before, Uncut}
 use Rattle.demands.specs.Demands.{Rises, Listed, Right, Correct, Complete}
 use Rattle.demands.specs.GoodFiles.{each-last}
 use Rattle.demands.specs.Order.{some-last}

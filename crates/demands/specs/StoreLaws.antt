@@ -1,14 +1,12 @@
 -- Laws of the store: what its bindings say of values for the cells, and that the values it gives are the most general ones.
 -- Assumes nothing.
-use Prim.Native.Nat.{ℕ, _≤_, _<_}
+use Prim.Native.Nat.{ℕ}
 use mathlib.Core.Path.{_≡_, refl, ap, sym, _∙_, fun-ext, subst}
 use mathlib.Core.Logic.{_≢_}
-use mathlib.Core.Bool.{Bool, true, false}
 use lib.Dec.{eqb}
 use borrow.Author.Tests.{eqb-true, eqb-false, eq-eqb, ne-eqb}
 use native.Mathlib.Omega.{arith}
-use Rattle.meaning.specs.If.{if_then_else_}
-use Rattle.meaning.specs.Terms.{Term, var, app, inst, insts}
+use Rattle.meaning.specs.Terms.{Term, var, app, inst}
 use Rattle.meaning.specs.Store.{Store, empty, bind, only, value, onward, follow}
 use Rattle.laws.specs.IfLaws.{if-by, if-true, if-false}
 use Rattle.demands.specs.TermLaws.{In, inst-inst, inst-var, inst-cong, inst-ext}

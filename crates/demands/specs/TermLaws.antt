@@ -1,13 +1,13 @@
 -- Laws of terms and their instances.
 -- Assumes nothing.
 use Prim.Native.Nat.{ℕ, suc, zero, _+_, _≤_, _<_}
-use mathlib.Core.Path.{_≡_, refl, ap, ap₂, sym, _∙_, fun-ext}
+use mathlib.Core.Path.{_≡_, refl, ap, ap₂, fun-ext}
 use mathlib.Core.Logic.{_⊎_, inl, inr}
 use mathlib.Core.Bool.{Bool, true, false, _||_}
 use lib.Dec.{eqb}
 use borrow.Author.Tests.{eqb-true, eqb-false}
 use native.Mathlib.Omega.{arith}
-use Rattle.meaning.specs.Terms.{Term, var, app, Terms, []ₜ, _∷ₜ_, count, inst, insts, occurs, occurs-in, values-from, row}
+use Rattle.meaning.specs.Terms.{Term, var, app, Terms, []ₜ, _∷ₜ_, count, inst, insts, occurs, occurs-in, values-from}
 
 -- the variable x stands in the term
 abbrev mutual

@@ -1,22 +1,21 @@
 -- The demands hold.
 -- Assumes nothing.
 use Prim.Native.Nat.{ℕ}
-use mathlib.Core.Path.{_≡_, refl, ap, ap₂, sym, _∙_, subst}
+use mathlib.Core.Path.{_≡_, refl, ap, sym, _∙_, subst}
 use mathlib.Core.Bool.{not}
 use mathlib.Core.List.{List}
 use native.Mathlib.Omega.{arith}
 use lib.Dec.{ltb}
 use lib.ListN.{length}
-use Rattle.meaning.specs.If.{if_then_else_}
 use Rattle.meaning.specs.Kinds.{file-limit}
 use Rattle.meaning.specs.Rules.{Rules}
-use Rattle.meaning.specs.Reading.{Read, read, parse}
+use Rattle.meaning.specs.Reading.{Read}
 use Rattle.meaning.specs.Answers.{Answer, output}
 use Rattle.meaning.specs.Moves.{Limits, Done, run, start}
 use Rattle.meaning.specs.Call.{Result, refusal, end, in-range, needed, ending, run-read, result, output-after, scratch-after}
-use Rattle.meaning.specs.Terms.{Term, Terms, count, row}
-use Rattle.demands.specs.Proofs.{Each, Wells, Uncut}
-use Rattle.demands.specs.Demands.{Says, Ends, Right, Correct, Complete, ThirdDemand, ThirdDemandWithCut, Leaves, OneOutcome}
+use Rattle.meaning.specs.Terms.{count, row}
+use Rattle.demands.specs.Proofs.{Each, Wells}
+use Rattle.demands.specs.Demands.{Says, Ends, Right, Complete, ThirdDemand, ThirdDemandWithCut, OneOutcome}
 use Rattle.laws.specs.IfLaws.{if-by}
 use Rattle.demands.specs.GoodFiles.{good-files-are-well-formed}
 use Rattle.demands.specs.TermLaws.{count-insts, count-from}

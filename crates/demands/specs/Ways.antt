@@ -1,25 +1,25 @@
 -- The proofs below a derivation. A derivation is exact when the proofs that begin with its steps are those that solve its store, make
 -- its pairs agree and prove its open goals. Every move keeps derivations exact: nothing is lost and nothing is invented.
 -- Assumes nothing.
-use Prim.Native.Nat.{ℕ, suc, zero, _+_, _≤_, _<_}
+use Prim.Native.Nat.{ℕ, _+_, _≤_, _<_}
 use mathlib.Core.Path.{_≡_, refl, ap, ap₂, sym, _∙_, fun-ext, subst}
-use mathlib.Core.Logic.{_⊎_, inl, inr, _↔_}
+use mathlib.Core.Logic.{_↔_}
 use mathlib.Core.List.{List, [], _∷_, _++_, map, append-assoc, append-nil}
-use mathlib.Core.Option.{Option, none, some, Option·some-injective}
+use mathlib.Core.Option.{some, Option·some-injective}
 use native.Mathlib.Omega.{arith}
 use lib.ListN.{length, getElem?}
-use Rattle.meaning.specs.Terms.{Term, var, app, Terms, []ₜ, _∷ₜ_, count, inst, insts, from, values-from, row}
+use Rattle.meaning.specs.Terms.{Term, var, Terms, count, inst, insts, from, row}
 use Rattle.meaning.specs.Rules.{Call, Goal, call, cut, Clause, Rules}
-use Rattle.meaning.specs.Store.{Store, empty, bind, value}
+use Rattle.meaning.specs.Store.{Store, empty, value}
 use Rattle.meaning.specs.Answers.{Answer, renumbered}
-use Rattle.meaning.specs.Moves.{Open, goal, cut-to, cut-idle, Derivation, Numbered, Pair, pairs, over, body-goal, query-goal, with-goals, with-binding, with-step, answer}
-use Rattle.demands.specs.Proofs.{Each, Well, Wells, Value, Values, calls, at-values, all-at, Proves, Allows, IsProof, Matches, WellCall, WellClause, WellFormed, NoCut}
+use Rattle.meaning.specs.Moves.{Open, goal, cut-to, cut-idle, Derivation, Numbered, Pair, pairs, over, body-goal, query-goal, with-goals, with-binding, with-step}
+use Rattle.demands.specs.Proofs.{Each, Value, Values, calls, at-values, all-at, Proves, Allows, IsProof, Matches, WellCall, WellClause, WellFormed}
 use Rattle.demands.specs.Demands.{Right}
 use Rattle.demands.specs.GoodFiles.{each-last, index-less}
 use Rattle.demands.specs.TermLaws.{inst-var, insts-insts, count-insts, insts-from, from-eq, eq-from}
 use Rattle.demands.specs.StoreLaws.{Sound, Solves, solves-value, value-solves}
-use Rattle.demands.specs.WellLaws.{Any, Goods, GoodStore, goods-more, goods-from, store-more, value-well, well-inst, insts-under, solves-under, joined, joined-below, joined-above, joined-all, Agree, pairs-agree}
-use Rattle.demands.specs.RenumberLaws.{InstanceOf, renumbered-in, renumbered-out}
+use Rattle.demands.specs.WellLaws.{Any, GoodStore, goods-more, goods-from, store-more, value-well, well-inst, insts-under, solves-under, joined, joined-below, joined-above, joined-all, Agree, pairs-agree}
+use Rattle.demands.specs.RenumberLaws.{renumbered-in, renumbered-out}
 
 -- ---- lists
 pub append-same : (p q r : List ℕ) → p ++ q ≡ p ++ r → q ≡ r

@@ -1,20 +1,18 @@
 -- What the exported calls tell, case by case.
 -- Assumes nothing.
-use Prim.Native.Nat.{ℕ, _+_, _*_, _-_, _%_, _^_, _≤_, _<_}
+use Prim.Native.Nat.{ℕ, _+_, _*_, _-_, _^_, _≤_, _<_}
 use mathlib.Core.Path.{_≡_, refl, sym, ap, ap₂, _∙_}
 use mathlib.Core.List.{List, _++_, append-assoc}
 use native.Mathlib.Omega.{arith}
 use native.Mathlib.Nat.{mod-eq-of-lt, min-eq-left, min-eq-right}
-use lib.Dec.{ltb}
 use lib.ListN.{length, set, take, drop, replicate, length-replicate, take-append-drop}
 use lib.Seq.{set-out, length-take-le, drop-append-le}
 use borrow.Author.Tests.{lt-ltb, le-ltb}
 use Rattle.laws.specs.IfLaws.{if-true, if-false}
-use Rattle.meaning.specs.If.{if_then_else_}
 use Rattle.meaning.specs.Moves.{Limits as Limits·defined}
 use Rattle.meaning.specs.Call.{Result, refusal, end, result, output-after}
 use Rattle.meaning.specs.Embedded.{embedded-in, embedded, embedded-limits, embedded-scratch, room-limit, packed}
-use Rattle.meaning.specs.Outcome.{Said, refused-as, ended-as, says, to-say, end-number}
+use Rattle.meaning.specs.Outcome.{Said, says, to-say, end-number}
 use Rattle.meaning.specs.declared.Place.{Place}
 use Rattle.meaning.specs.declared.Totals.{Totals}
 use Rattle.meaning.specs.declared.End.{End}

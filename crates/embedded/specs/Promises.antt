@@ -10,7 +10,6 @@ use native.Mathlib.Nat.{min-le-right}
 use lib.ListN.{length, drop}
 use borrow.Author.Tests.{ltb-false}
 use Rattle.laws.specs.IfLaws.{if-by}
-use Rattle.meaning.specs.If.{if_then_else_}
 use Rattle.meaning.specs.Rules.{Rules}
 use Rattle.meaning.specs.Answers.{Answer, output}
 use Rattle.meaning.specs.Call.{Result, refusal, end, result, output-after}

@@ -1,10 +1,10 @@
 -- How many bytes of a rule file each part of the rules takes, and the places that follow from it.
 -- Assumes nothing.
-use Prim.Native.Nat.{ℕ, zero, suc, _+_, _*_}
+use Prim.Native.Nat.{ℕ, _+_, _*_}
 use mathlib.Core.List.{List, [], _∷_}
 use lib.ListN.{length, take}
 use Rattle.meaning.specs.Terms.{Term, var, app, Terms, []ₜ, _∷ₜ_}
-use Rattle.meaning.specs.Rules.{Call, Goal, call, cut, Clause, Rules}
+use Rattle.meaning.specs.Rules.{Goal, call, cut, Clause, Rules}
 
 unfoldable mutual
   pub term-length : Term → ℕ

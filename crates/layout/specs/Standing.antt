@@ -1,16 +1,16 @@
 -- What stands where in a good file.
 -- Assumes nothing.
-use Prim.Native.Nat.{ℕ, zero, suc, _+_, _*_, _≤_, _<_}
+use Prim.Native.Nat.{ℕ, _+_, _*_, _≤_, _<_}
 use mathlib.Core.Path.{_≡_}
 use mathlib.Core.Logic.{_≢_}
 use mathlib.Core.List.{List, [], _∷_}
-use mathlib.Core.Option.{Option, some}
+use mathlib.Core.Option.{some}
 use lib.ListN.{length, getElem?}
 use Rattle.meaning.specs.Terms.{Term, var, app, Terms, []ₜ, _∷ₜ_}
 use Rattle.meaning.specs.Kinds.{a-clause, a-variable, an-application, a-goal, a-cut, a-query}
-use Rattle.meaning.specs.Rules.{Call, Goal, call, cut, Clause, Rules}
+use Rattle.meaning.specs.Rules.{Goal, call, cut, Clause, Rules}
 use Rattle.meaning.specs.Reading.{byte, two-bytes}
-use Rattle.layout.specs.Lengths.{term-length, terms-length, goal-length, goals-length, head-length, clause-length, clause-place, query-place}
+use Rattle.layout.specs.Lengths.{term-length, goal-length, goals-length, head-length, clause-length, clause-place, query-place}
 
 module _ (file : List ℕ) where
   -- the term stands at the place p

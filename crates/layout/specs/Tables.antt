@@ -1,15 +1,15 @@
 -- The tables of a run. For each place where a term or a goal stands: the place after it. For each clause's place: that of its body.
 -- For each predicate its first clause, for each clause its place and the next clause of its predicate: numbers from 1, where 0 is none.
 -- Assumes nothing.
-use Prim.Native.Nat.{ℕ, zero, suc, _+_, _*_, _≤_, _<_}
+use Prim.Native.Nat.{ℕ, suc, _+_}
 use mathlib.Core.Path.{_≡_}
 use mathlib.Core.List.{List, [], _∷_}
-use mathlib.Core.Option.{Option, some}
+use mathlib.Core.Option.{some}
 use lib.ListN.{length, getElem?}
 use Rattle.meaning.specs.Terms.{Term, var, app, Terms, []ₜ, _∷ₜ_}
-use Rattle.meaning.specs.Rules.{Call, Goal, call, cut, Clause, Rules}
+use Rattle.meaning.specs.Rules.{Goal, call, cut, Clause, Rules}
 use Rattle.meaning.specs.Moves.{Numbered, clauses-of}
-use Rattle.layout.specs.Lengths.{term-length, terms-length, goal-length, head-length, clause-place, query-place}
+use Rattle.layout.specs.Lengths.{term-length, goal-length, head-length, clause-place, query-place}
 use Rattle.layout.specs.Regions.{after-at, first-at, place-at, next-at, word}
 
 module _ (w : List ℕ) where

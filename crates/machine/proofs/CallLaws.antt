@@ -1,8 +1,8 @@
 -- What the whole call's tests and parts say.
 -- Assumes nothing.
-use Prim.Native.Nat.{ℕ, zero, suc, _+_, _-_, _*_, _^_, _≤_, _<_}
+use Prim.Native.Nat.{ℕ, _+_, _-_, _*_, _^_, _≤_, _<_}
 use mathlib.Core.Path.{_≡_, refl, sym, ap, ap₂, _∙_, subst}
-use mathlib.Core.Bool.{Bool, true, false, _&&_, not, false≢true}
+use mathlib.Core.Bool.{Bool, true, false, not, false≢true}
 use mathlib.Core.List.{List, _++_, append-nil}
 use native.Mathlib.Omega.{arith}
 use lib.Dec.{leb, ltb}
@@ -17,8 +17,7 @@ use Rattle.meaning.specs.Rules.{Rules}
 use Rattle.meaning.specs.Reading.{Read, refused, read, parse}
 use Rattle.meaning.specs.Moves.{Done, run, start}
 use Rattle.meaning.specs.Call.{Result, refusal, end, result, ending, run-read, in-range, needed, output-after, scratch-after}
-use Rattle.meaning.specs.Outcome.{says, to-say, refused-as}
-use Rattle.meaning.specs.Answers.{output}
+use Rattle.meaning.specs.Outcome.{says, to-say}
 use Rattle.meaning.specs.declared.Place.{Place}
 use Rattle.meaning.specs.declared.Outcome.{Outcome}
 use Rattle.meaning.specs.declared.Outcome.the-variants.{Refused}
@@ -32,7 +31,6 @@ use Rattle.layout.specs.Stood.{good-files-stand, good-files-fit}
 use Rattle.tables.specs.Stood.{tables-fit}
 use Rattle.tables.specs.Here.{CanLay, HasLaid}
 use Rattle.tables.specs.Tabling.{laid-tabled}
-use Rattle.tables.specs.Laid.{laid}
 use Rattle.layout.specs.Tables.{Tabled}
 use Rattle.layout.specs.Lengths.{query-place}
 use Rattle.simulation.specs.Rep.{Setting, Base, layout-of}

@@ -1,6 +1,6 @@
 -- What each return and each turn of the loop over heads says.
 -- Assumes nothing.
-use Prim.Native.Nat.{ℕ, _+_, _-_, _^_, _≤_, _<_}
+use Prim.Native.Nat.{ℕ, _-_, _^_, _≤_, _<_}
 use mathlib.Core.Path.{_≡_, refl, sym, _∙_}
 use mathlib.Core.List.{List}
 use lib.ListN.{length}
@@ -11,7 +11,7 @@ use Rattle.matching.specs.Matching.{MatchesPairs, late, differed, crowded-out, 
 use Rattle.matching.specs.declared.Came.{Came}
 use Rattle.matching.specs.declared.Came.the-variants.{Matched, Differed, Crowded, Late}
 use Rattle.matching.specs.declared.Matched.{Matched as Matched·pairs}
-use Rattle.search.specs.Search.{Backs, GoesOn, matched, more, room-of, Enters, TriesHead, over-cells, over-steps, tries, same, differ, over-work}
+use Rattle.search.specs.Search.{Backs, GoesOn, matched, more, room-of, Enters, over-cells, over-steps, tries, same, differ, over-work}
 use Rattle.search.specs.declared.Given.{Given}
 use Rattle.search.specs.declared.Regs.{Regs}
 use Rattle.search.specs.declared.Room.{Room}

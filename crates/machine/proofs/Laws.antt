@@ -1,23 +1,21 @@
 -- What each return and each turn of a loop of the machine says.
 -- Assumes nothing.
-use Prim.Native.Nat.{ℕ, zero, suc, _+_, _-_, _*_, _^_, _≤_, _<_}
-use mathlib.Core.Path.{_≡_, refl, sym, ap, _∙_}
+use Prim.Native.Nat.{ℕ, _+_, _-_, _*_, _^_, _≤_, _<_}
+use mathlib.Core.Path.{_≡_, refl, sym, _∙_}
 use mathlib.Core.Bool.{Bool, true, false, false≢true}
-use mathlib.Core.List.{List, [], _∷_, _++_, append-nil}
+use mathlib.Core.List.{List, [], append-nil}
 use native.Mathlib.Omega.{arith}
-use lib.ListN.{length, take, drop, set, replicate, length-set, length-drop}
+use lib.ListN.{length, take, drop, length-drop}
 use lib.Seq.{take-all, drop-length}
 use borrow.Rule.Slice.PartMut.{midOf, putMid}
-use borrow.Author.Fill.{fill-none, fill-more}
 use Rattle.meaning.specs.Reading.{byte}
 use Rattle.meaning.specs.declared.End.{End}
-use Rattle.meaning.specs.declared.End.the-variants.{NoMore, Wanted, Budget, Work, Output}
-use Rattle.meaning.specs.declared.Totals.{Totals}
+use Rattle.meaning.specs.declared.End.the-variants.{Wanted, Budget, Work, Output}
 use Rattle.meaning.specs.declared.Outcome.{Outcome}
 use Rattle.meaning.specs.declared.Outcome.the-variants.{Ended}
 use Rattle.words.specs.Words.{plus, ahead}
 use Rattle.simulation.specs.Pushing.{plus-small}
-use Rattle.search.specs.Search.{Backs, no-choice, retries, pops, retried, Calls, no-clause, first-clause, GoesOn, a-cut, no-goal, a-goal, MatchesOn, matched, more, Enters, enters, entered-regs, TriesHead, over-cells, over-steps, tries, MovesPair, same, differ, over-work, cut-regs, MovesCut, cuts, Starts, none-wanted, few-cells, starts}
+use Rattle.search.specs.Search.{Backs, no-choice, retries, pops, retried, Calls, no-clause, first-clause, GoesOn, a-cut, no-goal, a-goal, MatchesOn, matched, more, enters, entered-regs, TriesHead, over-cells, over-steps, tries, MovesPair, same, differ, over-work, cut-regs, MovesCut, cuts, Starts, none-wanted, few-cells, starts}
 use Rattle.search.specs.declared.Given.{Given}
 use Rattle.search.specs.declared.Regs.{Regs}
 use Rattle.search.specs.declared.Trial.{Trial}

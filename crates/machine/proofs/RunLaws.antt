@@ -1,45 +1,40 @@
 -- A run comes to what the definition says: its end, its answers, units and bytes, and what is in the output.
 -- Assumes nothing.
-use Prim.Native.Nat.{ℕ, zero, suc, _+_, _-_, _*_, _^_, _≤_, _<_}
+use Prim.Native.Nat.{ℕ, zero, suc, _+_, _-_, _^_, _≤_, _<_}
 use mathlib.Core.Path.{_≡_, refl, ap, ap₂, sym, _∙_, subst}
-use mathlib.Core.Bool.{Bool, true, false, false≢true}
-use mathlib.Core.List.{List, [], _∷_, _++_, append-nil, append-assoc}
+use mathlib.Core.Bool.{true, false, false≢true}
+use mathlib.Core.List.{List, [], _∷_, _++_, append-assoc}
 use native.Mathlib.Omega.{arith}
-use lib.Dec.{ltb, eqb}
 use lib.ListN.{length, take, drop, length-append, length-drop, take-append-drop}
 use lib.Seq.{take-at, drop-at, drop-drop}
-use borrow.Author.Tests.{ltb-false, eq-eqb, ne-eqb}
-use Rattle.meaning.specs.If.{if_then_else_}
+use borrow.Author.Tests.{eq-eqb, ne-eqb}
 use Rattle.meaning.specs.Rules.{Rules}
-use Rattle.meaning.specs.Reading.{byte}
 use Rattle.meaning.specs.Store.{Store}
-use Rattle.meaning.specs.Outcome.{end-number, Said, ended-as, says}
-use Rattle.meaning.specs.Answers.{Answer, Piece, piece, pieces, bytes-of, bytes, output, Fit, fits, stops, fitting}
-use Rattle.meaning.specs.Moves.{Open, cut-to, cut-idle, Derivation, Numbered, Choice, choice, Pair as Pair·defined, Move, trying, taking, cutting, Done, State, ended, due, nothing, spend, list, with-goals, fail, answer, answered, put-out, answering, keep, move, start, run}
+use Rattle.meaning.specs.Outcome.{end-number, ended-as, says}
+use Rattle.meaning.specs.Answers.{Answer, pieces, bytes, output, Fit, stops, fitting}
+use Rattle.meaning.specs.Moves.{Open, cut-to, cut-idle, Derivation, Choice, choice, Move, trying, taking, cutting, Done, State, ended, due, nothing, spend, list, with-goals, fail, answered, put-out, answering, move, start, run}
 use Rattle.meaning.specs.declared.End.{End}
-use Rattle.meaning.specs.declared.End.the-variants.{NoMore, Wanted, Budget, Work, Output}
+use Rattle.meaning.specs.declared.End.the-variants.{Wanted, Budget, Work, Output}
 use Rattle.meaning.specs.declared.Outcome.{Outcome}
-use Rattle.laws.specs.IfLaws.{if-by, if-true, if-false}
-use Rattle.demands.specs.Proofs.{Each, WellFormed}
+use Rattle.laws.specs.IfLaws.{if-true, if-false}
+use Rattle.demands.specs.Proofs.{WellFormed}
 use Rattle.demands.specs.GoodFiles.{good-files-are-well-formed}
 use Rattle.demands.specs.Rooms.{output-last, fits-within}
 use Rattle.demands.specs.Ways.{GoodAt}
-use Rattle.demands.specs.Searches.{GoodChoice, GoodChoices, Holds, start-holds, move-holds, spent as spent-holds}
-use Rattle.layout.specs.Lengths.{query-place}
-use Rattle.words.specs.Words.{plus, ahead}
-use Rattle.search.specs.Search.{Backs, MovesPair, MovesCut, TriesHead, Starts, none-wanted, few-cells, starts}
-use Rattle.search.specs.declared.Given.{Given}
+use Rattle.demands.specs.Searches.{GoodChoices, Holds, start-holds, move-holds, spent as spent-holds}
+use Rattle.words.specs.Words.{plus}
+use Rattle.search.specs.Search.{Starts, none-wanted, few-cells, starts}
 use Rattle.search.specs.declared.Regs.{Regs}
 use Rattle.search.specs.declared.Due.{Due}
-use Rattle.search.specs.declared.Due.the-variants.{Try, Pair, Cut, Answer as Answer·due, Over}
+use Rattle.search.specs.declared.Due.the-variants.{Over}
 use Rattle.answers.specs.Answering.{Answers, fit-of}
 use Rattle.answers.specs.declared.Wrote.{Wrote}
 use Rattle.answers.specs.declared.Wrote.the-variants.{Bytes, Full, Crowded}
 use Rattle.simulation.specs.Rep.{Setting, lay, Base, ChoicesAre, no-choices, choices}
 use Rattle.simulation.specs.PlaceLaws.{rules-stand}
 use Rattle.simulation.specs.TableFrames.{tables-room}
-use Rattle.simulation.specs.Undoes.{Within, within-good}
-use Rattle.simulation.specs.States.{SoundAll, none, more, Fair, Run, AtIs, TryIs, DueIs, is-try, is-pair, is-cut, is-idle, is-answer, is-over as is-over·due}
+use Rattle.simulation.specs.Undoes.{within-good}
+use Rattle.simulation.specs.States.{SoundAll, none, more, Fair, Run, AtIs, DueIs, is-try, is-pair, is-cut, is-idle, is-answer, is-over as is-over·due}
 use Rattle.simulation.specs.Backing.{backs-fail}
 use Rattle.simulation.specs.Going.{ahead-small}
 use Rattle.simulation.specs.Cutting.{cut-moves, idle-moves}

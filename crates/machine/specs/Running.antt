@@ -7,8 +7,7 @@ use mathlib.Core.List.{List, _++_}
 use lib.ListN.{length, take, drop}
 use Rattle.meaning.specs.Reading.{byte}
 use Rattle.meaning.specs.declared.End.{End}
-use Rattle.meaning.specs.declared.End.the-variants.{NoMore, Wanted, Budget, Work, Output}
-use Rattle.meaning.specs.declared.Totals.{Totals}
+use Rattle.meaning.specs.declared.End.the-variants.{Wanted, Budget, Work, Output}
 use Rattle.meaning.specs.declared.Outcome.{Outcome}
 use Rattle.meaning.specs.declared.Outcome.the-variants.{Ended}
 use Rattle.words.specs.Words.{plus, ahead}

@@ -1,8 +1,8 @@
 -- What matching comes to is one: one result, one content of scratch.
 -- Assumes nothing.
-use Prim.Native.Nat.{ℕ, _+_, _-_, _≤_, _<_}
+use Prim.Native.Nat.{ℕ, _-_}
 use mathlib.Core.Path.{_≡_, refl, sym, ap, _∙_}
-use mathlib.Core.Bool.{true, false, false≢true}
+use mathlib.Core.Bool.{false≢true}
 use mathlib.Core.List.{List}
 use native.Mathlib.Omega.{arith}
 use Rattle.meaning.specs.declared.CellNumber.{CellNumber}

@@ -6,7 +6,6 @@ use Rattle.meaning.specs.declared.End.the-variants.{NoMore, Wanted, Budg
 use Rattle.meaning.specs.declared.Outcome.{Outcome}
 use Rattle.meaning.specs.declared.Outcome.the-variants.{Refused, Ended}
 use Rattle.meaning.specs.Call.{Result, refusal, end}
-use mathlib.Core.List.{List}
 use lib.ListN.{length}
 
 unfoldable pub end-number : End → ℕ

@@ -10,7 +10,7 @@ use Rattle.meaning.specs.If.{if_then_else_}
 use Rattle.meaning.specs.Terms.{Term, var, app, Terms, []ₜ, _∷ₜ_}
 use Rattle.meaning.specs.Kinds.{body-length, a-function, a-predicate, a-clause, a-variable, an-application, a-goal, a-cut, a-query, the-end}
 use Rattle.meaning.specs.Kinds.{function-limit, predicate-limit, clause-limit, arity-limit, variable-limit, goal-limit, level-limit}
-use Rattle.meaning.specs.Rules.{Call, Goal, call, cut, Clause, Rules}
+use Rattle.meaning.specs.Rules.{Goal, call, cut, Clause, Rules}
 
 -- a refusal by number and place, or what was read, with the variables of the clause or query that have appeared, and the next place
 pub data Read (A : Type 0) : Type 0 where

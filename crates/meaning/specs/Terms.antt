@@ -2,7 +2,7 @@
 -- A list of terms has a type of its own: `[]ₜ` is empty, and `t ∷ₜ ts` has t in front of ts.
 -- Assumes nothing.
 use Prim.Native.Nat.{ℕ, zero, suc, _+_}
-use mathlib.Core.Bool.{Bool, true, false, _||_}
+use mathlib.Core.Bool.{Bool, false, _||_}
 use lib.Dec.{eqb}
 
 infixr 67 _∷ₜ_

@@ -1,20 +1,17 @@
 -- What each return and each turn of a loop of the search says.
 -- Assumes nothing.
 use Prim.Native.Nat.{ℕ, zero, suc, _+_, _-_, _*_, _%_, _≤_, _<_}
-use mathlib.Core.Path.{_≡_, refl, sym, ap, _∙_}
-use mathlib.Core.Bool.{Bool, true, false, _||_}
+use mathlib.Core.Path.{_≡_, refl, sym, _∙_}
+use mathlib.Core.Bool.{true, _||_}
 use mathlib.Core.List.{List}
 use native.Mathlib.Omega.{arith}
 use lib.Dec.{eqb, ltb}
-use lib.ListN.{length, getD, set, length-set}
+use lib.ListN.{length, getD}
 use borrow.Author.Tests.{eq-eqb, ne-eqb, lt-ltb, le-ltb, ltb-true}
-use Rattle.meaning.specs.If.{if_then_else_}
 use Rattle.meaning.specs.Reading.{byte, two-bytes, goal-due}
 use Rattle.meaning.specs.declared.Place.{Place}
-use Rattle.meaning.specs.declared.CellNumber.{CellNumber}
 use Rattle.meaning.specs.declared.ClauseNumber.{ClauseNumber}
-use Rattle.meaning.specs.declared.End.{End}
-use Rattle.meaning.specs.declared.End.the-variants.{NoMore, Wanted, Cells, Steps, Work}
+use Rattle.meaning.specs.declared.End.the-variants.{NoMore, Wanted, Cells}
 use Rattle.laws.specs.IfLaws.{if-by, if-true, if-false}
 use Rattle.words.specs.Words.{plus, ahead}
 use Rattle.cells.specs.Cells.{undone, freed}
@@ -22,17 +19,15 @@ use Rattle.cells.specs.declared.Held.{Held}
 use Rattle.cells.specs.declared.Layout.{Layout}
 use Rattle.matching.specs.Matching.{put-four, word-of-place, place-after, past-kind, pushed}
 use Rattle.search.specs.Search.{step-word, step-next, settled-next, clause-place-word, clause-next-word, below-of, rest-word, retried, Backs, no-choice, retries, pops}
-use Rattle.search.specs.Search.{trial-of, first-word, Calls, no-clause, first-clause, GoesOn, a-cut, no-goal, a-goal, step-put, room-of, arity-at, paired, entered-regs, entered-words, Enters, enters, kept-of, cut-regs, MovesCut, cuts, start-regs, Starts, none-wanted, few-cells, starts}
-use Rattle.search.specs.declared.Limits.{Limits}
+use Rattle.search.specs.Search.{trial-of, first-word, no-clause, first-clause, GoesOn, a-cut, no-goal, a-goal, step-put, room-of, arity-at, paired, entered-regs, entered-words, Enters, enters, kept-of, cut-regs, MovesCut, cuts, start-regs, Starts, none-wanted, few-cells, starts}
 use Rattle.search.specs.declared.Given.{Given}
 use Rattle.search.specs.declared.Next.{Next}
 use Rattle.search.specs.declared.Rest.{Rest}
-use Rattle.search.specs.declared.Room.{Room}
 use Rattle.search.specs.declared.Room.the-variants.{Cells as Room-cells, Steps as Room-steps, Fits}
 use Rattle.search.specs.declared.Regs.{Regs}
 use Rattle.search.specs.declared.Trial.{Trial}
 use Rattle.search.specs.declared.Due.{Due}
-use Rattle.search.specs.declared.Due.the-variants.{Try, Pair, Cut, Answer, Over as Over·due}
+use Rattle.search.specs.declared.Due.the-variants.{Try, Cut, Answer, Over as Over·due}
 
 -- ---- words of a step
 pub step-none : (w : List ℕ) (lay : Layout) (s k : ℕ) → s ≡ 0 → 0 ≡ step-word w lay s k

@@ -2,25 +2,20 @@
 -- Assumes nothing.
 use Prim.Native.Nat.{ℕ, zero, suc, _+_, _-_, _*_, _%_, _<_, _≤_}
 use mathlib.Core.Path.{_≡_}
-use mathlib.Core.Bool.{Bool, true, false, _||_}
+use mathlib.Core.Bool.{_||_}
 use mathlib.Core.List.{List}
 use lib.Dec.{eqb, ltb}
-use lib.ListN.{getD, set}
+use lib.ListN.{getD}
 use Rattle.meaning.specs.If.{if_then_else_}
 use Rattle.meaning.specs.Reading.{byte, two-bytes, goal-due}
 use Rattle.meaning.specs.declared.Place.{Place}
-use Rattle.meaning.specs.declared.CellNumber.{CellNumber}
 use Rattle.meaning.specs.declared.ClauseNumber.{ClauseNumber}
-use Rattle.meaning.specs.declared.End.{End}
 use Rattle.meaning.specs.declared.End.the-variants.{NoMore, Wanted, Cells, Steps, Work}
 use Rattle.words.specs.Words.{plus, ahead}
 use Rattle.cells.specs.Cells.{undone, freed}
-use Rattle.cells.specs.declared.Held.{Held}
 use Rattle.cells.specs.declared.Layout.{Layout}
 use Rattle.matching.specs.Matching.{put-four, word-of-place, place-after, past-kind, pushed, TakesPair}
-use Rattle.matching.specs.declared.Pairing.{Pairing}
 use Rattle.matching.specs.declared.Pairing.the-variants.{Same, Differ, Over}
-use Rattle.search.specs.declared.Limits.{Limits}
 use Rattle.search.specs.declared.Given.{Given}
 use Rattle.search.specs.declared.Next.{Next}
 use Rattle.search.specs.declared.Rest.{Rest}

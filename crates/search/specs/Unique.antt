@@ -1,6 +1,6 @@
 -- What going back, going on, a cut and the start come to is one: one result, one content of scratch.
 -- Assumes nothing.
-use Prim.Native.Nat.{ℕ, suc, _+_, _-_, _≤_, _<_}
+use Prim.Native.Nat.{ℕ, _-_}
 use mathlib.Core.Path.{_≡_, refl, sym, ap, _∙_}
 use mathlib.Core.List.{List}
 use native.Mathlib.Omega.{arith}
@@ -11,7 +11,7 @@ use Rattle.search.specs.declared.Next.{Next}
 use Rattle.search.specs.declared.Due.{Due}
 use Rattle.search.specs.declared.Due.the-variants.{Try}
 use Rattle.search.specs.declared.Given.{Given}
-use Rattle.search.specs.Search.{step-word, rest-word, retried, Backs, no-choice, retries, pops, trial-of, Calls, no-clause, first-clause, GoesOn, a-cut, no-goal, a-goal, MovesCut, cuts, Starts, none-wanted, few-cells, starts}
+use Rattle.search.specs.Search.{rest-word, Backs, no-choice, retries, pops, trial-of, Calls, no-clause, first-clause, GoesOn, a-cut, no-goal, a-goal, MovesCut, cuts, Starts, none-wanted, few-cells, starts}
 
 pub backs-once : {lay : Layout} {m : Regs} {trail c : ℕ} {w u v : List ℕ} {r s : Due} → Backs lay m trail c w r u → Backs lay m trail c w s v → Once r s u v
 backs-once (no-choice a) (no-choice b) = (refl, refl)

@@ -12,17 +12,15 @@ use borrow.Author.Tests.{eqb-true, eqb-false}
 use lib.ListN.{length, getElem?, set, drop, length-set, length-append}
 use lib.Seq.{getD-set-same, sets, length-sets, sets-eq}
 use Rattle.meaning.specs.If.{if_then_else_}
-use Rattle.meaning.specs.Terms.{Term, var, Terms, []ₜ, count, inst, insts, values-from, row}
+use Rattle.meaning.specs.Terms.{Term, var, Terms, []ₜ, count, insts, values-from, row}
 use Rattle.meaning.specs.Kinds.{an-answer, the-answer-end}
-use Rattle.meaning.specs.Store.{Store, empty, bind, only, value}
+use Rattle.meaning.specs.Store.{value}
 use Rattle.meaning.specs.Answers.{Answer, appears, index, renumbered, Piece, piece, two, write-each, write-step, pieces, bytes-of, bytes, fits, stops, fitting}
 use Rattle.meaning.specs.Moves.{Derivation, Choice, answer}
 use Rattle.meaning.specs.Call.{needed}
-use Rattle.laws.specs.IfLaws.{if-by}
 use Rattle.demands.specs.Proofs.{Each}
 use Rattle.demands.specs.Order.{each-map}
 use Rattle.demands.specs.TermLaws.{In, Ins}
-use Rattle.demands.specs.StoreLaws.{Sound}
 use Rattle.demands.specs.Ways.{GoodAt}
 use Rattle.demands.specs.WellLaws.{well-in, store-bindings-good, value-good}
 use Rattle.layout.specs.Regions.{word, Keeps}

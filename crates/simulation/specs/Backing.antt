@@ -1,34 +1,32 @@
 -- Going back comes to what the definition's failure comes to.
 -- Assumes nothing.
 use Prim.Native.Nat.{ℕ, zero, suc, _+_, _-_, _*_, _≤_, _<_}
-use mathlib.Core.Path.{_≡_, refl, ap, ap₂, sym, _∙_, subst}
-use mathlib.Core.Logic.{_⊎_, inl, inr}
+use mathlib.Core.Path.{_≡_, refl, ap₂, sym, _∙_, subst}
+use mathlib.Core.Logic.{inl, inr}
 use mathlib.Core.List.{List, [], _∷_}
-use mathlib.Core.Option.{some}
 use native.Mathlib.Omega.{arith}
 use lib.Dec.{ltb}
-use lib.ListN.{length, getElem?}
+use lib.ListN.{length}
 use borrow.Author.Tests.{lt-ltb}
-use Rattle.meaning.specs.If.{if_then_else_}
-use Rattle.meaning.specs.Rules.{Call, Rules}
+use Rattle.meaning.specs.Rules.{Call}
 use Rattle.meaning.specs.Store.{Store}
 use Rattle.meaning.specs.Outcome.{end-number}
 use Rattle.meaning.specs.declared.End.the-variants.{NoMore}
-use Rattle.meaning.specs.Moves.{Derivation, Numbered, Choice, choice, Done, State, ended, due, trying, fail}
+use Rattle.meaning.specs.Moves.{Derivation, Numbered, Choice, choice, Done, fail}
 use Rattle.meaning.specs.Call.{needed}
 use Rattle.laws.specs.IfLaws.{if-true}
-use Rattle.demands.specs.StoreLaws.{Free, Sound}
-use Rattle.layout.specs.Regions.{word, Keeps, place-at, next-at}
+use Rattle.demands.specs.StoreLaws.{Sound}
+use Rattle.layout.specs.Regions.{word, Keeps, next-at}
 use Rattle.layout.specs.Tables.{Chain}
 use Rattle.cells.specs.Cells.{undone}
 use Rattle.search.specs.Search.{step-word, step-next, clause-next-word, below-of, rest-word, retried, Backs, no-choice, retries, pops}
 use Rattle.search.specs.declared.Regs.{Regs}
 use Rattle.search.specs.declared.Due.{Due}
 use Rattle.simulation.specs.Rep.{Setting, lay, layout-of, Base, StoreIs, ChoicesAre, no-choices, choices, bindings, Older}
-use Rattle.simulation.specs.Frames.{SameSteps, SameTables, choices-same, clause-words-same, goals-same, links-same, steps-same}
+use Rattle.simulation.specs.Frames.{SameSteps, SameTables, choices-same}
 use Rattle.simulation.specs.TableFrames.{base-same}
 use Rattle.simulation.specs.Undoes.{Within, Restored, undo-restores, store-bindings}
-use Rattle.simulation.specs.States.{SoundAll, none, more, StoreRep, Run, Onward, TryIs, DueIs, is-try, is-over}
+use Rattle.simulation.specs.States.{SoundAll, more, StoreRep, DueIs, is-try, is-over}
 
 module _ (X : Setting) (fits : length (X .rules .predicates) + 2 * length (X .rules .clauses) ≤ length (X .file)) (wanted room : ℕ) where
   abbrev C : ℕ

@@ -1,24 +1,20 @@
 -- Matching that is done, and cuts, come to what the definition says.
 -- Assumes nothing.
-use Prim.Native.Nat.{ℕ, zero, suc, _+_, _-_, _*_, _^_, _≤_, _<_}
-use mathlib.Core.Path.{_≡_, refl, ap, sym, _∙_, subst}
-use mathlib.Core.Logic.{_⊎_, inl, inr}
+use Prim.Native.Nat.{ℕ, zero, suc, _+_, _-_, _≤_}
+use mathlib.Core.Path.{_≡_, refl, ap, sym, subst}
 use mathlib.Core.List.{List, [], _∷_}
 use native.Mathlib.Omega.{arith}
 use lib.ListN.{length, drop}
-use Rattle.meaning.specs.Kinds.{file-limit}
-use Rattle.meaning.specs.Rules.{Call, Rules}
 use Rattle.meaning.specs.Store.{Store}
-use Rattle.meaning.specs.Moves.{Open, cut-to, cut-idle, Derivation, Numbered, Choice, choice, Pair, Done, State, keep, with-goals, go-on, matching}
+use Rattle.meaning.specs.Moves.{Open, cut-to, cut-idle, Derivation, Choice, choice, Pair, Done, keep, with-goals, go-on, matching}
 use Rattle.demands.specs.Order.{keep-all}
 use Rattle.words.specs.Words.{ahead}
-use Rattle.search.specs.Search.{step-word, settled-next, MatchesOn, matched, more, kept-of, cut-regs, MovesCut, cuts}
+use Rattle.search.specs.Search.{step-word, MatchesOn, matched, more, kept-of, cut-regs, MovesCut, cuts}
 use Rattle.search.specs.declared.Regs.{Regs}
 use Rattle.search.specs.declared.Due.{Due}
-use Rattle.simulation.specs.Rep.{Setting, lay, HeightIs, no-height, height, OnChain, here, up, Links, GoalsAre, ChoicesAre, no-choices, choices, PairsAre}
+use Rattle.simulation.specs.Rep.{Setting, lay, HeightIs, no-height, height, OnChain, here, up, Links, GoalsAre, ChoicesAre, no-choices, choices}
 use Rattle.simulation.specs.Frames.{choices-later}
-use Rattle.simulation.specs.TableFrames.{tables-room}
-use Rattle.simulation.specs.States.{SoundAll, none, more as more-sound, Fair, StoreRep, Run, Onward, AtIs, DueIs, is-pair}
+use Rattle.simulation.specs.States.{SoundAll, more as more-sound, Fair, AtIs, DueIs, is-pair}
 use Rattle.simulation.specs.Unmentioned.{Unmentioned}
 use Rattle.simulation.specs.Goals.{First, a-cut, an-idle, goals-first, SettledAt, settled-is}
 use Rattle.simulation.specs.Going.{ahead-small, goes-on}

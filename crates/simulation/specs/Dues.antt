@@ -7,12 +7,11 @@ use mathlib.Core.List.{List}
 use native.Mathlib.Omega.{arith}
 use lib.ListN.{length, set, length-set}
 use lib.Seq.{getD-set-other, getD-set-same}
-use Rattle.meaning.specs.Terms.{Term, var, app, Terms, []ₜ, _∷ₜ_, count, inst, insts, from}
+use Rattle.meaning.specs.Terms.{var, app, Terms, []ₜ, _∷ₜ_, count, inst, insts, from}
 use Rattle.meaning.specs.Call.{needed}
 use Rattle.demands.specs.TermLaws.{count-insts}
 use Rattle.layout.specs.Lengths.{term-length, terms-length}
-use Rattle.layout.specs.Regions.{word, Keeps, after-at}
-use Rattle.layout.specs.Tables.{AfterTerm}
+use Rattle.layout.specs.Regions.{word, Keeps}
 use Rattle.words.specs.Words.{ahead}
 use Rattle.cells.specs.declared.Held.{Held}
 use Rattle.answers.specs.Values.{due-at, due-put, arguments-put}

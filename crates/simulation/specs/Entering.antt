@@ -1,53 +1,48 @@
 -- Entering a clause: one step more, fresh cells, the pairs of its head.
 -- Assumes nothing.
-use Prim.Native.Nat.{ℕ, zero, suc, _+_, _*_, _%_, _^_, _≤_, _<_}
-use mathlib.Core.Path.{_≡_, refl, ap, ap₂, sym, _∙_, subst}
-use mathlib.Core.Logic.{_⊎_, inl, inr, _≢_}
+use Prim.Native.Nat.{ℕ, zero, suc, _+_, _*_, _%_, _≤_, _<_}
+use mathlib.Core.Path.{_≡_, refl, ap, sym, _∙_, subst}
+use mathlib.Core.Logic.{_⊎_, inl, inr}
 use mathlib.Core.List.{List, [], _∷_, _++_, map, append-nil}
-use mathlib.Core.Option.{Option, some}
+use mathlib.Core.Option.{some}
 use native.Mathlib.Omega.{arith}
 use native.Mathlib.Nat.{mod-lt}
 use lib.Dec.{ltb}
 use mathlib.Core.Bool.{Bool, true, false}
 use borrow.Author.Tests.{ltb-true, ltb-false}
 use lib.ListN.{length, getElem?, getD, length-append}
-use Rattle.meaning.specs.Kinds.{file-limit, arity-limit}
-use Rattle.meaning.specs.Terms.{Term, Terms, count, inst, insts, from}
-use Rattle.meaning.specs.Rules.{Call, Goal, Clause, Rules}
-use Rattle.meaning.specs.Reading.{byte, two-bytes}
+use Rattle.meaning.specs.Terms.{Terms, count, insts, from}
+use Rattle.meaning.specs.Rules.{Call}
+use Rattle.meaning.specs.Reading.{byte}
 use Rattle.meaning.specs.Store.{Store}
-use Rattle.meaning.specs.Moves.{Open, goal, Derivation, Numbered, Choice, choice, Pair, pairs, over, body-goal, with-goals, with-step}
+use Rattle.meaning.specs.Moves.{Open, goal, Derivation, Numbered, Choice, choice, pairs, over, body-goal, with-step}
 use Rattle.meaning.specs.Call.{needed}
-use Rattle.demands.specs.Proofs.{Each, WellCall}
 use Rattle.demands.specs.TermLaws.{count-insts}
 use Rattle.demands.specs.StoreLaws.{Free, Sound}
 use Rattle.demands.specs.WellLaws.{GoodStore}
-use Rattle.demands.specs.GoodFiles.{index-less}
-use Rattle.layout.specs.Lengths.{terms-length, head-length, clause-length, clause-place, query-place}
-use Rattle.layout.specs.Standing.{StandsRules, StandsClause}
-use Rattle.layout.specs.Regions.{word, Keeps, after-at, place-at, next-at}
-use Rattle.layout.specs.Tables.{Chain, Tabled, AfterClause}
-use Rattle.words.specs.Words.{plus, ahead}
+use Rattle.layout.specs.Lengths.{head-length, clause-length, clause-place}
+use Rattle.layout.specs.Standing.{StandsClause}
+use Rattle.layout.specs.Regions.{word, Keeps}
+use Rattle.layout.specs.Tables.{Chain}
+use Rattle.words.specs.Words.{plus}
 use Rattle.cells.specs.Cells.{freed}
-use Rattle.cells.specs.declared.Held.{Held}
-use Rattle.matching.specs.Matching.{place-after, past-kind, pushed}
+use Rattle.matching.specs.Matching.{place-after, past-kind}
 use Rattle.search.specs.Search.{step-word, step-put, clause-next-word, arity-at, paired, entered-regs, settled-next}
 use Rattle.search.specs.declared.Regs.{Regs}
-use Rattle.search.specs.declared.Next.{Next}
 use Rattle.search.specs.declared.Trial.{Trial}
-use Rattle.simulation.specs.Places.{GoalsFrom, whole, BodyAt, TermsAt, of-head}
+use Rattle.simulation.specs.Places.{whole, BodyAt, of-head}
 use Rattle.simulation.specs.PlaceLaws.{rules-stand, terms-end, body-ends, query-ends}
-use Rattle.simulation.specs.Rep.{Setting, lay, layout-of, Base, StoreIs, FreeIs, MarksAre, StepsAre, HeightIs, no-height, height, OnChain, here, up, Links, Settled, GoalsAre, in-query, in-body, GoalIs, ChoicesAre, no-choices, choices, bindings, Older, now, PairsAre}
-use Rattle.simulation.specs.Ranges.{Range, in-range-is}
-use Rattle.simulation.specs.Frames.{keeps-none, SameSteps, SameTables, height-same, links-same, steps-same, goals-same, clause-words-same, next-same, choices-same, choices-later}
+use Rattle.simulation.specs.Rep.{Setting, lay, layout-of, Base, StepsAre, HeightIs, no-height, height, here, up, Links, Settled, GoalsAre, in-query, in-body, GoalIs, ChoicesAre, no-choices, choices, bindings, now, PairsAre}
+use Rattle.simulation.specs.Ranges.{in-range-is}
+use Rattle.simulation.specs.Frames.{keeps-none, SameSteps, SameTables, links-same, steps-same, goals-same, clause-words-same, next-same, choices-same}
 use Rattle.simulation.specs.TableFrames.{tables-room, base-same}
 use Rattle.simulation.specs.Undoes.{store-bindings}
 use Rattle.simulation.specs.Follows.{bindings-few}
 use Rattle.simulation.specs.Insides.{store-same}
-use Rattle.simulation.specs.States.{StoreRep, Run, Onward, TryIs, AtIs}
+use Rattle.simulation.specs.States.{StoreRep, TryIs, AtIs}
 use Rattle.simulation.specs.Goals.{SettledAt, settled-is}
 use Rattle.simulation.specs.Going.{ahead-small}
-use Rattle.simulation.specs.Pushing.{plus-small, Pushed, pushed-pairs, work-tables}
+use Rattle.simulation.specs.Pushing.{plus-small, Pushed, pushed-pairs}
 use Rattle.simulation.specs.Fresh.{Cleared, freed-clears, step-keeps, wrote-0, wrote-1, wrote-2, wrote-3, wrote-4, wrote-5, wrote-6, wrote-7}
 
 module _ (X : Setting) where

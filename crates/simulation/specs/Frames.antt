@@ -1,26 +1,20 @@
 -- What a change of some words leaves as it was.
 -- Assumes nothing.
-use Prim.Native.Nat.{ℕ, zero, suc, _+_, _*_, _%_, _≤_, _<_}
+use Prim.Native.Nat.{ℕ, zero, suc, _+_, _*_, _≤_, _<_}
 use mathlib.Core.Path.{_≡_, refl, ap, sym, _∙_, subst}
 use mathlib.Core.Logic.{_⊎_, inl, inr, _≢_}
-use mathlib.Core.List.{List, [], _∷_, _++_}
-use mathlib.Core.Option.{Option, some}
+use mathlib.Core.List.{List, [], _∷_}
+use mathlib.Core.Option.{some}
 use native.Mathlib.Omega.{arith}
-use lib.ListN.{length, getElem?, getD, set, length-set}
-use lib.Seq.{getD-set-other, getD-set-same}
-use Rattle.meaning.specs.Terms.{Term}
-use Rattle.meaning.specs.Rules.{Rules}
-use Rattle.meaning.specs.Store.{Store, empty, bind}
+use lib.ListN.{length, set, length-set}
+use lib.Seq.{getD-set-other}
+use Rattle.meaning.specs.Store.{Store, bind}
 use Rattle.meaning.specs.Moves.{Open, Choice, Numbered}
 use Rattle.demands.specs.Proofs.{Each}
-use Rattle.demands.specs.StoreLaws.{Free}
 use Rattle.layout.specs.Regions.{word, Keeps, place-at, next-at}
 use Rattle.layout.specs.Tables.{Chain}
-use Rattle.cells.specs.Cells.{cell-at, cell-of}
-use Rattle.cells.specs.declared.Layout.{Layout}
 use Rattle.search.specs.Search.{step-word, clause-next-word}
-use Rattle.simulation.specs.Places.{IsHeld}
-use Rattle.simulation.specs.Rep.{Setting, lay, layout-of, StoreIs, StepsAre, HeightIs, no-height, height, OnChain, here, up, Links, Settled, GoalsAre, in-query, in-body, Older, now, since, ChoicesAre, no-choices, choices, GoalIs}
+use Rattle.simulation.specs.Rep.{Setting, lay, layout-of, StepsAre, HeightIs, no-height, height, OnChain, here, up, Links, Settled, GoalsAre, in-query, in-body, Older, now, since, ChoicesAre, no-choices, choices, GoalIs}
 
 -- ---- regions
 pub keeps-none : (lo hi : ℕ) (w : List ℕ) → Keeps lo hi w w

@@ -1,13 +1,13 @@
 -- The record of a step, and fresh cells.
 -- Assumes nothing.
-use Prim.Native.Nat.{ℕ, zero, suc, _+_, _*_, _%_, _^_, _≤_, _<_}
+use Prim.Native.Nat.{ℕ, zero, suc, _+_, _*_, _^_, _≤_, _<_}
 use mathlib.Core.Path.{_≡_, refl, ap, sym, _∙_, subst}
-use mathlib.Core.Logic.{_⊎_, inl, inr, _≢_}
+use mathlib.Core.Logic.{inl, _≢_}
 use mathlib.Core.Bool.{Bool, true, false}
 use mathlib.Core.List.{List}
 use native.Mathlib.Omega.{arith}
 use lib.Dec.{eqb}
-use lib.ListN.{length, getD, set, length-set}
+use lib.ListN.{length, set, length-set}
 use lib.Seq.{getD-set-other, getD-set-same}
 use borrow.Author.Tests.{eqb-true, eqb-false}
 use Rattle.meaning.specs.Call.{needed}
@@ -19,7 +19,7 @@ use Rattle.search.specs.declared.Regs.{Regs}
 use Rattle.search.specs.declared.Trial.{Trial}
 use Rattle.matching.specs.Matching.{put-four, word-of-place}
 use Rattle.simulation.specs.Rep.{Setting, lay, layout-of, Base}
-use Rattle.simulation.specs.Ranges.{Range, in-range-is}
+use Rattle.simulation.specs.Ranges.{in-range-is}
 use Rattle.simulation.specs.Frames.{keeps-then, keeps-wider}
 use Rattle.simulation.specs.Pushing.{plus-small, words-small, four-keeps, four-0, four-1, four-2, four-3, place-word}
 

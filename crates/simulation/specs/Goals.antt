@@ -1,29 +1,27 @@
 -- The open goals in scratch: what stands first, and where they go on.
 -- Assumes nothing.
-use Prim.Native.Nat.{ℕ, zero, suc, _+_, _*_, _≤_, _<_}
-use mathlib.Core.Path.{_≡_, refl, ap, ap₂, sym, _∙_, subst, fun-ext}
-use mathlib.Core.Logic.{_⊎_, inl, inr, _≢_}
+use Prim.Native.Nat.{ℕ, zero, suc, _+_, _≤_}
+use mathlib.Core.Path.{_≡_, refl, ap, sym, _∙_, fun-ext}
+use mathlib.Core.Logic.{_≢_}
 use mathlib.Core.Bool.{Bool, true, false, _||_}
-use mathlib.Core.List.{List, [], _∷_, _++_, map}
-use mathlib.Core.Option.{Option, some}
+use mathlib.Core.List.{List, [], _∷_}
 use native.Mathlib.Omega.{arith}
 use lib.Dec.{eqb}
-use lib.ListN.{length, getElem?}
+use lib.ListN.{length}
 use borrow.Author.Tests.{eq-eqb, ne-eqb}
-use Rattle.meaning.specs.If.{if_then_else_}
 use Rattle.meaning.specs.Terms.{Term, var, Terms, insts, from}
-use Rattle.meaning.specs.Rules.{Call, Goal, call, cut, Clause, Rules}
-use Rattle.meaning.specs.Reading.{byte, two-bytes, goal-due}
+use Rattle.meaning.specs.Rules.{Call, Goal, call, cut}
+use Rattle.meaning.specs.Reading.{byte, goal-due}
 use Rattle.meaning.specs.Moves.{Open, goal, cut-to, cut-idle, body-goal, query-goal, over}
-use Rattle.laws.specs.IfLaws.{if-by, if-true, if-false}
+use Rattle.laws.specs.IfLaws.{if-by}
 use Rattle.demands.specs.TermLaws.{insts-var}
 use Rattle.layout.specs.Lengths.{terms-length, goal-length, goals-length}
-use Rattle.layout.specs.Standing.{StandsGoal, StandsGoals}
+use Rattle.layout.specs.Standing.{StandsGoal}
 use Rattle.layout.specs.Regions.{word, after-at}
 use Rattle.layout.specs.Tables.{Tabled}
 use Rattle.search.specs.Search.{step-word, step-next, settled-next}
 use Rattle.search.specs.declared.Next.{Next}
-use Rattle.simulation.specs.Places.{GoalsFrom, whole, later, BodyAt, QueryAt, TermsAt, of-body, of-query}
+use Rattle.simulation.specs.Places.{GoalsFrom, whole, later, BodyAt, of-body, of-query}
 use Rattle.simulation.specs.Rep.{Setting, lay, HeightIs, OnChain, here, up, Links, Settled, GoalsAre, in-query, in-body, GoalIs}
 use Rattle.simulation.specs.PlaceLaws.{body-stands, query-stands, body-ends, query-ends, body-after, query-after}
 

@@ -1,35 +1,28 @@
 -- Taking the first open goal comes to what the definition says.
 -- Assumes nothing.
-use Prim.Native.Nat.{ℕ, zero, suc, _+_, _-_, _*_, _%_, _^_, _≤_, _<_}
-use mathlib.Core.Path.{_≡_, refl, ap, ap₂, sym, _∙_, subst}
-use mathlib.Core.Logic.{_⊎_, inl, inr, _≢_}
-use mathlib.Core.List.{List, [], _∷_, _++_}
-use mathlib.Core.Option.{Option, some}
+use Prim.Native.Nat.{ℕ, _+_, _-_, _^_, _≤_, _<_}
+use mathlib.Core.Path.{_≡_, refl, ap, sym, _∙_, subst}
+use mathlib.Core.List.{List, [], _∷_}
 use native.Mathlib.Omega.{arith}
 use native.Mathlib.Nat.{mod-eq-of-lt}
-use lib.ListN.{length, getElem?, getD}
-use Rattle.meaning.specs.Kinds.{file-limit}
-use Rattle.meaning.specs.Terms.{Term}
-use Rattle.meaning.specs.Rules.{Call, Goal, Clause, Rules}
-use Rattle.meaning.specs.Reading.{byte, two-bytes}
-use Rattle.meaning.specs.Moves.{Open, goal, cut-to, cut-idle, Derivation, Numbered, Choice, choice, Pair, Done, State, ended, due, trying, cutting, clauses-of, over, with-goals, fail, take-goal, go-on, answering}
+use lib.ListN.{length, getD}
+use Rattle.meaning.specs.Rules.{Call}
+use Rattle.meaning.specs.Reading.{two-bytes}
+use Rattle.meaning.specs.Moves.{Open, goal, cut-to, cut-idle, Derivation, Numbered, Choice, choice, Done, clauses-of, over, with-goals, fail, take-goal, go-on}
 use Rattle.demands.specs.Proofs.{Each, WellCall}
 use Rattle.demands.specs.Order.{each-map, clauses-known}
-use Rattle.demands.specs.StoreLaws.{Free, Sound}
 use Rattle.demands.specs.Ways.{todo}
 use Rattle.demands.specs.GoodFiles.{index-less}
-use Rattle.layout.specs.Regions.{word, after-at, first-at, place-at, next-at}
-use Rattle.layout.specs.Tables.{Chain, Tabled}
+use Rattle.layout.specs.Regions.{word, after-at, first-at}
+use Rattle.layout.specs.Tables.{Chain}
 use Rattle.words.specs.Words.{ahead}
 use Rattle.matching.specs.Matching.{place-after}
 use Rattle.search.specs.Search.{step-word, clause-next-word, trial-of, Calls, no-clause, first-clause, GoesOn, a-cut as Cut-move, no-goal as Answer-move, a-goal as Goal-move}
 use Rattle.search.specs.declared.Regs.{Regs}
-use Rattle.search.specs.declared.Next.{Next}
 use Rattle.search.specs.declared.Due.{Due}
-use Rattle.simulation.specs.Rep.{Setting, lay, layout-of, Base, GoalsAre, GoalIs, ChoicesAre}
+use Rattle.simulation.specs.Rep.{Setting, lay, layout-of, GoalsAre, GoalIs}
 use Rattle.simulation.specs.TableFrames.{tables-room}
-use Rattle.simulation.specs.Undoes.{Within}
-use Rattle.simulation.specs.States.{SoundAll, Fair, StoreRep, Run, Onward, TryIs, AtIs, DueIs, is-try, is-cut, is-idle, is-answer}
+use Rattle.simulation.specs.States.{Fair, AtIs, DueIs, is-try, is-cut, is-idle, is-answer}
 use Rattle.simulation.specs.Backing.{backs-fail}
 use Rattle.simulation.specs.Goals.{First, no-goal, a-call, a-cut, an-idle, goals-first, SettledAt, settled-is}
 

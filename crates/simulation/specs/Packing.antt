@@ -1,23 +1,20 @@
 -- A bound cell's word holds its term.
 -- Assumes nothing.
-use Prim.Native.Nat.{ℕ, zero, suc, _+_, _-_, _*_, _/_, _%_, _^_, _≤_, _<_}
+use Prim.Native.Nat.{ℕ, _+_, _-_, _*_, _/_, _%_, _≤_, _<_}
 use mathlib.Core.Path.{_≡_, refl, ap, ap₂, sym, _∙_, subst}
 use mathlib.Core.Logic.{_⊎_, inl, inr}
-use mathlib.Core.List.{List}
 use native.Mathlib.Omega.{arith}
 use native.Mathlib.Nat.{mod-eq-of-lt, mod-lt}
 use lib.Dec.{eqb}
 use borrow.Author.Tests.{ne-eqb}
 use Rattle.meaning.specs.If.{if_then_else_}
 use Rattle.meaning.specs.Terms.{Term, var, app, Terms, []ₜ, _∷ₜ_, inst, insts, from}
-use Rattle.meaning.specs.Rules.{Rules}
 use Rattle.laws.specs.IfLaws.{if-false}
 use Rattle.demands.specs.TermLaws.{In, Ins, inst-cong}
 use Rattle.demands.specs.WellLaws.{Good, well-in}
 use Rattle.words.specs.Words.{plus}
 use Rattle.cells.specs.Cells.{word-of, cell-of}
 use Rattle.cells.specs.declared.Held.{Held}
-use Rattle.cells.specs.declared.Cell.{Cell}
 use Rattle.cells.specs.declared.Cell.the-variants.{Free, Bound}
 use Rattle.simulation.specs.Places.{IsHeld}
 use Rattle.simulation.specs.Rep.{Setting}

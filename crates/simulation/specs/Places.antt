@@ -1,12 +1,12 @@
 -- The places of terms and goals in a good file: where an argument list of the rules goes on, and where goals do.
 -- Assumes nothing.
-use Prim.Native.Nat.{ℕ, zero, suc, _+_, _≤_, _<_}
+use Prim.Native.Nat.{ℕ, _+_}
 use mathlib.Core.Path.{_≡_}
-use mathlib.Core.List.{List, [], _∷_}
-use mathlib.Core.Option.{Option, some}
-use lib.ListN.{length, getElem?}
-use Rattle.meaning.specs.Terms.{Term, var, app, Terms, []ₜ, _∷ₜ_, inst, from}
-use Rattle.meaning.specs.Rules.{Call, Goal, call, cut, Clause, Rules}
+use mathlib.Core.List.{List, _∷_}
+use mathlib.Core.Option.{some}
+use lib.ListN.{getElem?}
+use Rattle.meaning.specs.Terms.{Term, app, Terms, _∷ₜ_, inst, from}
+use Rattle.meaning.specs.Rules.{Call, Goal, call, Clause, Rules}
 use Rattle.layout.specs.Lengths.{term-length, goal-length, head-length, clause-place, query-place}
 use Rattle.cells.specs.declared.Held.{Held}
 

@@ -1,28 +1,26 @@
 -- The pairs of arguments in the work region.
 -- Assumes nothing.
-use Prim.Native.Nat.{ℕ, zero, suc, _+_, _*_, _%_, _^_, _≤_, _<_}
-use mathlib.Core.Path.{_≡_, refl, ap, ap₂, sym, _∙_, subst}
-use mathlib.Core.Logic.{_⊎_, inl, inr, _≢_}
+use Prim.Native.Nat.{ℕ, suc, _+_, _*_, _^_, _≤_, _<_}
+use mathlib.Core.Path.{_≡_, refl, ap, sym, _∙_, subst}
+use mathlib.Core.Logic.{inl, inr, _≢_}
 use mathlib.Core.List.{List, [], _∷_, _++_}
 use native.Mathlib.Omega.{arith}
 use native.Mathlib.Nat.{mod-eq-of-lt}
 use lib.ListN.{length, getD, set, length-set}
 use lib.Seq.{getD-set-other, getD-set-same}
-use Rattle.meaning.specs.Kinds.{file-limit}
 use Rattle.meaning.specs.Terms.{Term, Terms, []ₜ, _∷ₜ_, count, inst, insts, from}
-use Rattle.meaning.specs.Rules.{Rules}
 use Rattle.meaning.specs.Moves.{Pair, pairs}
 use Rattle.meaning.specs.Call.{needed}
 use Rattle.layout.specs.Lengths.{term-length, terms-length}
 use Rattle.layout.specs.Regions.{word, Keeps, after-at}
-use Rattle.layout.specs.Tables.{Tabled, AfterTerm, AfterTerms}
-use Rattle.words.specs.Words.{plus, ahead}
+use Rattle.layout.specs.Tables.{AfterTerm}
+use Rattle.words.specs.Words.{plus}
 use Rattle.cells.specs.declared.Held.{Held}
 use Rattle.matching.specs.Matching.{put-four, word-of-place, held-at, place-after, pushed}
 use Rattle.simulation.specs.Places.{TermsAt, rest, IsHeld}
 use Rattle.simulation.specs.PlaceLaws.{terms-end, terms-after}
 use Rattle.simulation.specs.Rep.{Setting, lay, layout-of, Base, PairsAre}
-use Rattle.simulation.specs.Ranges.{Range, in-range-is, needed-small}
+use Rattle.simulation.specs.Ranges.{in-range-is, needed-small}
 use Rattle.simulation.specs.Frames.{keeps-none, keeps-then, keeps-wider, set-keeps, SameTables}
 use Rattle.simulation.specs.TableFrames.{base-same}
 use Rattle.simulation.specs.Going.{ahead-small}

@@ -1,14 +1,14 @@
 -- The run limits of a run that is not refused.
 -- Assumes nothing.
-use Prim.Native.Nat.{ℕ, _+_, _*_, _^_, _≤_, _<_}
-use mathlib.Core.Path.{_≡_, refl}
-use mathlib.Core.Bool.{Bool, true, false, _&&_}
+use Prim.Native.Nat.{ℕ, _^_, _≤_, _<_}
+use mathlib.Core.Path.{_≡_}
+use mathlib.Core.Bool.{Bool, true, _&&_}
 use mathlib.Core.Option.{some}
 use native.Mathlib.Omega.{arith}
 use lib.Dec.{leb}
 use lib.ListN.{length, getElem?}
 use borrow.Author.Tests.{leb-true}
-use Rattle.meaning.specs.Kinds.{file-limit, arity-limit}
+use Rattle.meaning.specs.Kinds.{arity-limit}
 use Rattle.meaning.specs.Moves.{Limits}
 use Rattle.meaning.specs.Call.{in-range, needed}
 use Rattle.laws.specs.IfLaws.{and-left, and-right}

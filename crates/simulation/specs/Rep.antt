@@ -4,21 +4,21 @@ use Prim.Native.Nat.{ℕ, zero, suc, _+_, _*_, _≤_, _<_}
 use mathlib.Core.Path.{_≡_}
 use mathlib.Core.Bool.{true}
 use mathlib.Core.List.{List, [], _∷_, _++_, map}
-use mathlib.Core.Option.{Option, some}
-use lib.ListN.{length, getElem?, getD}
-use Rattle.meaning.specs.Terms.{Term, Terms}
+use mathlib.Core.Option.{some}
+use lib.ListN.{length, getElem?}
+use Rattle.meaning.specs.Terms.{Term}
 use Rattle.meaning.specs.Kinds.{file-limit}
-use Rattle.meaning.specs.Rules.{Call, Goal, call, cut, Clause, Rules}
-use Rattle.meaning.specs.Reading.{Read, read, parse, byte, two-bytes, goal-due}
+use Rattle.meaning.specs.Rules.{Call, Goal, Rules}
+use Rattle.meaning.specs.Reading.{read, parse, byte, two-bytes, goal-due}
 use Rattle.meaning.specs.Store.{Store, empty, bind}
-use Rattle.meaning.specs.Moves.{Limits, Open, goal, Derivation, Numbered, Choice, choice, Pair, body-goal, query-goal, over}
+use Rattle.meaning.specs.Moves.{Limits, Open, Derivation, Numbered, Choice, choice, Pair, body-goal, query-goal, over}
 use Rattle.meaning.specs.Call.{in-range, needed}
 use Rattle.demands.specs.Proofs.{Each}
 use Rattle.layout.specs.Regions.{word}
 use Rattle.layout.specs.Tables.{Tabled, Chain}
 use Rattle.cells.specs.Cells.{cell-at}
 use Rattle.cells.specs.declared.Held.{Held}
-use Rattle.cells.specs.declared.Cell.the-variants.{Free, Bound}
+use Rattle.cells.specs.declared.Cell.the-variants.{Bound}
 use Rattle.cells.specs.declared.Layout.{Layout}
 use Rattle.matching.specs.Matching.{held-at}
 use Rattle.search.specs.Search.{step-word, clause-next-word}

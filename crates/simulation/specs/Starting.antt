@@ -1,33 +1,27 @@
 -- The start of a run comes to what the definition says.
 -- Assumes nothing.
-use Prim.Native.Nat.{ℕ, zero, suc, _+_, _*_, _^_, _≤_, _<_}
-use mathlib.Core.Path.{_≡_, refl, ap, sym, _∙_, subst}
-use mathlib.Core.List.{List, [], _∷_, map}
+use Prim.Native.Nat.{ℕ, _+_, _≤_}
+use mathlib.Core.Path.{_≡_, refl, sym, _∙_, subst}
+use mathlib.Core.List.{List, [], map}
 use native.Mathlib.Omega.{arith}
-use lib.Dec.{eqb, ltb}
-use lib.ListN.{length}
 use borrow.Author.Tests.{eq-eqb, ne-eqb, lt-ltb, le-ltb}
-use Rattle.meaning.specs.If.{if_then_else_}
 use Rattle.meaning.specs.Outcome.{end-number}
 use Rattle.meaning.specs.declared.End.the-variants.{Wanted, Cells}
-use Rattle.meaning.specs.Reading.{byte}
 use Rattle.meaning.specs.Store.{empty}
 use Rattle.meaning.specs.Call.{needed}
-use Rattle.meaning.specs.Moves.{Derivation, query-goal, nothing, start, go-on}
+use Rattle.meaning.specs.Moves.{Derivation, query-goal, nothing, start}
 use Rattle.laws.specs.IfLaws.{if-true, if-false}
 use Rattle.demands.specs.GoodFiles.{good-files-are-well-formed}
-use Rattle.demands.specs.Ways.{asked, asked-good}
+use Rattle.demands.specs.Ways.{asked-good}
 use Rattle.layout.specs.Lengths.{query-place}
-use Rattle.layout.specs.Regions.{word}
-use Rattle.words.specs.Words.{ahead}
 use Rattle.cells.specs.Cells.{freed}
 use Rattle.search.specs.Search.{start-regs, Starts, none-wanted, few-cells, starts}
 use Rattle.search.specs.declared.Regs.{Regs}
 use Rattle.search.specs.declared.Due.{Due}
-use Rattle.simulation.specs.Places.{GoalsFrom, whole}
+use Rattle.simulation.specs.Places.{whole}
 use Rattle.simulation.specs.PlaceLaws.{rules-stand}
 use Rattle.simulation.specs.Rep.{Setting, lay, layout-of, Base, in-query, no-choices}
-use Rattle.simulation.specs.TableFrames.{tables-room, base-same}
+use Rattle.simulation.specs.TableFrames.{base-same}
 use Rattle.simulation.specs.States.{none, Fair, AtIs, DueIs, is-over}
 use Rattle.simulation.specs.Going.{goes-on, ahead-small}
 use Rattle.simulation.specs.Fresh.{Cleared, freed-clears}

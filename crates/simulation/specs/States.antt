@@ -1,15 +1,13 @@
 -- When the registers and words of a run stand for a state of the definition.
 -- Assumes nothing.
-use Prim.Native.Nat.{ℕ, zero, suc, _+_, _*_, _≤_, _<_}
+use Prim.Native.Nat.{ℕ, suc, _≤_, _<_}
 use mathlib.Core.Path.{_≡_}
 use mathlib.Core.List.{List, [], _∷_}
-use mathlib.Core.Option.{Option, some}
-use lib.ListN.{length, getElem?}
-use Rattle.meaning.specs.Terms.{Term}
-use Rattle.meaning.specs.Rules.{Call, Clause, Rules}
+use lib.ListN.{length}
+use Rattle.meaning.specs.Rules.{Call}
 use Rattle.meaning.specs.Outcome.{end-number}
 use Rattle.meaning.specs.Store.{Store}
-use Rattle.meaning.specs.Moves.{Open, cut-to, cut-idle, Derivation, Numbered, Choice, choice, Pair, Move, trying, taking, cutting, Done, State, ended, due, with-goals, keep, answering}
+use Rattle.meaning.specs.Moves.{Open, cut-to, cut-idle, Derivation, Numbered, Choice, choice, Pair, trying, taking, cutting, Done, State, ended, due, with-goals, answering}
 use Rattle.meaning.specs.declared.End.{End}
 use Rattle.demands.specs.Proofs.{Each}
 use Rattle.demands.specs.StoreLaws.{Free, Sound}

@@ -1,26 +1,23 @@
 -- The tables stay while their words do.
 -- Assumes nothing.
-use Prim.Native.Nat.{ℕ, zero, suc, _+_, _*_, _≤_, _<_}
-use mathlib.Core.Path.{_≡_, refl, ap, sym, _∙_, subst}
-use mathlib.Core.Logic.{_⊎_, inl, inr}
+use Prim.Native.Nat.{ℕ, _+_, _*_, _≤_, _<_}
+use mathlib.Core.Path.{_≡_, sym, _∙_, subst}
 use mathlib.Core.List.{List, [], _∷_}
-use mathlib.Core.Option.{Option, some}
+use mathlib.Core.Option.{some}
 use native.Mathlib.Omega.{arith}
 use lib.ListN.{length, getElem?}
 use Rattle.meaning.specs.Terms.{Term, var, app, Terms, []ₜ, _∷ₜ_}
-use Rattle.meaning.specs.Rules.{Call, Goal, call, cut, Clause, Rules}
-use Rattle.meaning.specs.Moves.{Numbered, clauses-of}
-use Rattle.meaning.specs.Call.{needed}
+use Rattle.meaning.specs.Rules.{Goal, call, cut, Clause}
+use Rattle.meaning.specs.Moves.{clauses-of}
 use Rattle.demands.specs.Proofs.{Each}
 use Rattle.demands.specs.GoodFiles.{index-less}
 use Rattle.demands.specs.Order.{each-map, clauses-known}
 use Rattle.layout.specs.Lengths.{term-length, terms-length, goal-length, goals-length, head-length, clause-length, clause-place, query-place}
-use Rattle.layout.specs.Standing.{StandsRules, StandsClause}
 use Rattle.layout.specs.Stood.{good-files-fit}
-use Rattle.layout.specs.Regions.{word, Keeps, after-at, first-at}
-use Rattle.layout.specs.Tables.{AfterTerm, AfterTerms, AfterGoal, AfterGoals, AfterClause, Chain, Tabled}
+use Rattle.layout.specs.Regions.{word, after-at, first-at}
+use Rattle.layout.specs.Tables.{AfterTerm, AfterTerms, AfterGoals, AfterClause, Chain, Tabled}
 use Rattle.tables.specs.Stood.{tables-fit}
-use Rattle.simulation.specs.Rep.{Setting, lay, layout-of, Base}
+use Rattle.simulation.specs.Rep.{Setting, Base}
 use Rattle.simulation.specs.PlaceLaws.{rules-stand}
 use Rattle.simulation.specs.Frames.{SameTables, clause-words-same}
 

@@ -1,39 +1,33 @@
 -- Taking the front pair comes to what the definition says.
 -- Assumes nothing.
-use Prim.Native.Nat.{ℕ, zero, suc, _+_, _-_, _*_, _%_, _^_, _≤_, _<_}
-use mathlib.Core.Path.{_≡_, refl, ap, ap₂, sym, _∙_, subst}
-use mathlib.Core.Logic.{_⊎_, inl, inr, _≢_}
-use mathlib.Core.Bool.{Bool, true, false, not}
+use Prim.Native.Nat.{ℕ, zero, suc, _+_, _-_, _*_, _≤_, _<_}
+use mathlib.Core.Path.{_≡_, refl, ap, sym, _∙_, subst}
+use mathlib.Core.Logic.{inl, inr, _≢_}
+use mathlib.Core.Bool.{false, not}
 use mathlib.Core.List.{List, [], _∷_, _++_}
-use mathlib.Core.Option.{Option, some, Option·some-injective}
+use mathlib.Core.Option.{Option·some-injective}
 use native.Mathlib.Omega.{arith}
 use native.Mathlib.Nat.{mod-lt}
-use lib.Dec.{eqb, ltb}
-use lib.ListN.{length, getElem?, getD, set, length-set, length-append}
+use lib.ListN.{length, set, length-set, length-append}
 use lib.Seq.{getD-set-other, getD-set-same}
-use borrow.Author.Tests.{eqb-true, eqb-false, eq-eqb, ne-eqb, ltb-true, ltb-false, lt-ltb, le-ltb}
-use Rattle.meaning.specs.If.{if_then_else_}
-use Rattle.meaning.specs.Kinds.{arity-limit}
+use borrow.Author.Tests.{eq-eqb, ne-eqb, lt-ltb, le-ltb}
 use Rattle.meaning.specs.Terms.{Term, var, app, Terms, []ₜ, _∷ₜ_, count, inst, insts, from, occurs}
-use Rattle.meaning.specs.Rules.{Call, Rules}
 use Rattle.meaning.specs.Reading.{byte}
 use Rattle.meaning.specs.Store.{Store, bind, value, follow}
 use Rattle.meaning.specs.Outcome.{end-number}
 use Rattle.meaning.specs.declared.End.the-variants.{Work}
-use Rattle.meaning.specs.Moves.{Open, Derivation, Numbered, Choice, choice, Pair, pairs, Done, State, ended, with-binding, fail, matching, binding, compared, take-pair}
+use Rattle.meaning.specs.Moves.{Derivation, Choice, choice, Pair, pairs, Done, State, ended, with-binding, fail, matching, binding, compared, take-pair}
 use Rattle.meaning.specs.Call.{needed}
-use Rattle.laws.specs.IfLaws.{if-by, if-true, if-false}
-use Rattle.demands.specs.TermLaws.{In, occurs-false, count-insts}
+use Rattle.laws.specs.IfLaws.{if-true, if-false}
+use Rattle.demands.specs.TermLaws.{occurs-false, count-insts}
 use Rattle.demands.specs.StoreLaws.{Free, Sound, follow-free}
 use Rattle.demands.specs.WellLaws.{Good, GoodStore, GoodPairs, follow-good, followed-good}
 use Rattle.demands.specs.Ways.{GoodAt}
 use Rattle.layout.specs.Regions.{word, Keeps}
 use Rattle.words.specs.Words.{plus, ahead}
-use Rattle.cells.specs.Cells.{cell-at, cell-of, word-of, followed, Inside}
+use Rattle.cells.specs.Cells.{cell-at, cell-of, word-of, followed}
 use Rattle.cells.specs.declared.Held.{Held}
-use Rattle.cells.specs.declared.Cell.the-variants.{Bound}
 use Rattle.cells.specs.declared.Found.{Found}
-use Rattle.cells.specs.declared.Found.the-variants.{Unbound, Function}
 use Rattle.matching.specs.Matching.{held-at, past-kind, pushed, bound-to, one-bound, BindChecked, is-inside, binds, BindHead, unmentioned, mentioned, Functions, unequal, crowded, equal, front-of, Compares, one-variable, head-variable, head-free, goal-free, both-applied, TakesPair, no-pair, front}
 use Rattle.matching.specs.declared.Pairing.{Pairing}
 use Rattle.matching.specs.declared.Pairing.the-variants.{Same, Differ, Over}
@@ -43,13 +37,13 @@ use Rattle.search.specs.declared.Due.{Due}
 use Rattle.search.specs.declared.Due.the-variants.{Over as Over·due}
 use Rattle.simulation.specs.Places.{TermsAt, of-term, IsHeld}
 use Rattle.simulation.specs.PlaceLaws.{arity-stands}
-use Rattle.simulation.specs.Rep.{Setting, lay, layout-of, Base, StoreIs, FreeIs, MarksAre, PairsAre, ChoicesAre, Older, now, since, bindings}
-use Rattle.simulation.specs.Ranges.{few-functions, Range, in-range-is}
+use Rattle.simulation.specs.Rep.{Setting, lay, layout-of, Base, MarksAre, PairsAre, Older, now, since, bindings}
+use Rattle.simulation.specs.Ranges.{few-functions, in-range-is}
 use Rattle.simulation.specs.Frames.{SameSteps, SameTables, steps-same, goals-same, links-same, choices-same, choices-later}
 use Rattle.simulation.specs.TableFrames.{tables-room, base-same}
-use Rattle.simulation.specs.Undoes.{Within, store-bindings, store-set}
+use Rattle.simulation.specs.Undoes.{store-bindings, store-set}
 use Rattle.simulation.specs.Follows.{Stored, FoundIs, follows, bindings-few}
-use Rattle.simulation.specs.Insides.{Looking, insides, store-same, stored-kept}
+use Rattle.simulation.specs.Insides.{insides, store-same, stored-kept}
 use Rattle.simulation.specs.Unmentioned.{Unmentioned, arguments-good, sides-append, all-mentioned, outside, free-apart}
 use Rattle.simulation.specs.States.{Fair, StoreRep, Run, Onward, AtIs, DueIs, is-over}
 use Rattle.simulation.specs.Backing.{backs-fail}

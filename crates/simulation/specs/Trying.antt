@@ -1,31 +1,26 @@
 -- Trying a head comes to what the definition says.
 -- Assumes nothing.
-use Prim.Native.Nat.{ℕ, zero, suc, _+_, _*_, _≤_, _<_}
-use mathlib.Core.Path.{_≡_, refl, ap, ap₂, sym, _∙_, subst}
-use mathlib.Core.Bool.{Bool, true, false}
-use mathlib.Core.List.{List, [], _∷_, _++_}
-use mathlib.Core.Option.{Option, some, Option·some-injective}
+use Prim.Native.Nat.{ℕ, _+_, _*_, _≤_, _<_}
+use mathlib.Core.Path.{_≡_, refl, ap, sym, _∙_, subst}
+use mathlib.Core.List.{List, _∷_}
+use mathlib.Core.Option.{some, Option·some-injective}
 use native.Mathlib.Omega.{arith}
 use lib.Dec.{ltb}
 use lib.ListN.{length, getElem?, getD}
-use borrow.Author.Tests.{ltb-true, ltb-false}
+use borrow.Author.Tests.{ltb-false}
 use Rattle.meaning.specs.If.{if_then_else_}
-use Rattle.meaning.specs.Kinds.{arity-limit}
-use Rattle.meaning.specs.Terms.{Term, Terms, count}
-use Rattle.meaning.specs.Rules.{Call, Clause, Rules}
-use Rattle.meaning.specs.Reading.{byte}
+use Rattle.meaning.specs.Terms.{count}
+use Rattle.meaning.specs.Rules.{Call}
 use Rattle.meaning.specs.Outcome.{end-number}
 use Rattle.meaning.specs.declared.End.the-variants.{Cells, Steps}
-use Rattle.meaning.specs.Moves.{Derivation, Numbered, Choice, choice, Pair, pairs, over, Done, State, ended, with-goals, with-step, matching, try-head}
+use Rattle.meaning.specs.Moves.{Derivation, Numbered, Choice, choice, pairs, over, Done, ended, with-goals, with-step, matching, try-head}
 use Rattle.laws.specs.IfLaws.{if-by, if-true, if-false}
-use Rattle.demands.specs.Proofs.{Each, WellCall, WellClause, WellFormed}
+use Rattle.demands.specs.Proofs.{WellClause, WellFormed}
 use Rattle.demands.specs.Order.{each-at}
-use Rattle.demands.specs.StoreLaws.{Sound}
 use Rattle.demands.specs.WellLaws.{store-bindings-good}
-use Rattle.demands.specs.Ways.{todo, GoodAt, OfGoal, with-goal, step-good}
+use Rattle.demands.specs.Ways.{step-good}
 use Rattle.demands.specs.Searches.{GoodChoice}
 use Rattle.layout.specs.Lengths.{clause-place, query-place}
-use Rattle.layout.specs.Regions.{word, place-at}
 use Rattle.meaning.specs.declared.Place.{Place}
 use Rattle.cells.specs.Cells.{freed}
 use Rattle.search.specs.Search.{step-put, clause-place-word, room-of, arity-at, paired, entered-regs, entered-words, Enters, enters, MatchesOn, TriesHead, over-cells, over-steps, tries}
@@ -33,14 +28,12 @@ use Rattle.search.specs.declared.Given.{Given}
 use Rattle.search.specs.declared.Regs.{Regs}
 use Rattle.search.specs.declared.Trial.{Trial}
 use Rattle.search.specs.declared.Due.{Due}
-use Rattle.search.specs.declared.Room.{Room}
 use Rattle.search.specs.declared.Room.the-variants.{Cells as Room-cells, Steps as Room-steps, Fits}
 use Rattle.simulation.specs.PlaceLaws.{rules-stand}
 use Rattle.simulation.specs.Rep.{Setting, lay, layout-of}
-use Rattle.simulation.specs.Ranges.{few-predicates, Range, in-range-is}
-use Rattle.simulation.specs.TableFrames.{tables-room}
-use Rattle.simulation.specs.Undoes.{Within, within-good}
-use Rattle.simulation.specs.States.{SoundAll, more, Fair, StoreRep, Run, TryIs, AtIs, DueIs, is-over}
+use Rattle.simulation.specs.Ranges.{few-predicates, in-range-is}
+use Rattle.simulation.specs.Undoes.{within-good}
+use Rattle.simulation.specs.States.{SoundAll, more, Fair, TryIs, DueIs, is-over}
 use Rattle.simulation.specs.Unmentioned.{Unmentioned, arguments-good}
 use Rattle.simulation.specs.Cutting.{matches-on}
 use Rattle.simulation.specs.Entering.{Tried, entered-at, arity-is}

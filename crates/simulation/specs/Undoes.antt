@@ -1,27 +1,22 @@
 -- Going back restores the store: no binding is kept.
 -- Assumes nothing.
-use Prim.Native.Nat.{ℕ, zero, suc, _+_, _*_, _≤_, _<_}
+use Prim.Native.Nat.{ℕ, zero, suc, _+_, _≤_, _<_}
 use mathlib.Core.Path.{_≡_, refl, ap, sym, _∙_, subst}
-use mathlib.Core.Logic.{_⊎_, inl, inr, _≢_}
+use mathlib.Core.Logic.{_≢_}
 use mathlib.Core.Bool.{Bool, true, false}
 use mathlib.Core.List.{List}
 use native.Mathlib.Omega.{arith}
 use lib.Dec.{leb, eqb}
-use lib.ListN.{length, getD, set, length-set}
+use lib.ListN.{length, set, length-set}
 use lib.Seq.{getD-set-other, getD-set-same}
 use borrow.Author.Tests.{le-leb, lt-leb, eqb-true, eqb-false}
-use Rattle.meaning.specs.If.{if_then_else_}
 use Rattle.meaning.specs.Terms.{Term}
 use Rattle.meaning.specs.Store.{Store, empty, bind}
-use Rattle.meaning.specs.Call.{needed}
 use Rattle.laws.specs.IfLaws.{if-true, if-false}
 use Rattle.demands.specs.StoreLaws.{Free, Sound}
 use Rattle.demands.specs.WellLaws.{GoodStore}
 use Rattle.layout.specs.Regions.{word, Keeps}
 use Rattle.cells.specs.Cells.{cell-at, cell-of, undone}
-use Rattle.cells.specs.declared.Held.{Held}
-use Rattle.cells.specs.declared.Cell.the-variants.{Bound}
-use Rattle.simulation.specs.Places.{IsHeld}
 use Rattle.simulation.specs.Rep.{Setting, lay, layout-of, StoreIs, bindings, Older, now, since}
 use Rattle.simulation.specs.Frames.{keeps-none, keeps-then, set-keeps}
 

@@ -7,9 +7,9 @@ use mathlib.Core.List.{List, [], _∷_, _++_}
 use native.Mathlib.Omega.{arith}
 use borrow.Author.Tests.{ne-eqb}
 use Rattle.meaning.specs.Terms.{Term, var, Terms, []ₜ, _∷ₜ_, inst, occurs}
-use Rattle.meaning.specs.Store.{Store, bind, value}
+use Rattle.meaning.specs.Store.{Store, value}
 use Rattle.meaning.specs.Moves.{Pair, pairs}
-use Rattle.demands.specs.TermLaws.{In, occurs-true}
+use Rattle.demands.specs.TermLaws.{occurs-true}
 use Rattle.demands.specs.StoreLaws.{Free, value-free}
 use Rattle.demands.specs.WellLaws.{Good, Goods, GoodStore, GoodBindings, GoodPairs, well-in, well-inst, value-good, store-bindings-good}
 
