@@ -188,8 +188,10 @@ fn embedded_call(file: &[u8], budget: u32, wanted: u32, out: &mut [u8]) -> Outco
 /// The embedded form: end or refusal in the upper half; in the lower the
 /// bytes written after an end, the place after a refusal.
 pub fn embedded(file: &[u8], budget: u32, wanted: u32, out: &mut [u8]) -> u64 {
-    let [number, place, .., bytes] = embedded_call(file, budget, wanted, out).words();
-    number << 32 | if number < 20 { place } else { bytes }
+    match embedded_call(file, budget, wanted, out) {
+        Outcome::Refused { number, place } => u64::from(number) << 32 | place as u64,
+        Outcome::Ended { end, bytes, .. } => u64::from(end) << 32 | bytes as u64,
+    }
 }
 
 /// The small program: its line, and then the answer bytes.
@@ -202,13 +204,19 @@ pub fn program(file: &[u8]) -> Vec<u8> {
 
 /// The program's line, closed by byte 0A.
 pub fn line(outcome: &Outcome) -> String {
-    let [number, place, answers, units, bytes] = outcome.words();
-    let small = match number {
-        23..=25 => " limits too small",
-        _ => "",
-    };
-    match number {
-        ..20 => format!("refused {number} at {place}\n"),
-        _ => format!("end {number} answers {answers} units {units} bytes {bytes}{small}\n"),
+    match *outcome {
+        Outcome::Refused { number, place } => format!("refused {number} at {place}\n"),
+        Outcome::Ended {
+            end,
+            answers,
+            units,
+            bytes,
+        } => {
+            let small = match end {
+                23..=25 => " limits too small",
+                _ => "",
+            };
+            format!("end {end} answers {answers} units {units} bytes {bytes}{small}\n")
+        }
     }
 }

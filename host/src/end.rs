@@ -18,6 +18,12 @@ impl End {
     }
 }
 
+/// Whether a number is that of an end: 20 to 26, and 29 of document 02. Every
+/// other number but 0 is a refusal's.
+pub fn is_end(number: u64) -> bool {
+    matches!(number, 20..=26 | 29)
+}
+
 /// Why a file is refused, and the place of the record at fault.
 #[derive(Clone, Copy, Debug, PartialEq, Eq)]
 pub struct Refusal {
