@@ -3,21 +3,22 @@
 
 #include <stdio.h>
 
-/* a rule file has at most 60,000 bytes */
-static uint8_t file[60001];
+/* One byte more than a rule file may have, which tells that it has too many. */
+static uint8_t file[PEGPLANET_LIMIT_FILE + 1];
 
 int main(void) {
     size_t length = fread(file, 1, sizeof file, stdin);
-    uint64_t number = pegplanet_check(file, length);
+    uint64_t packed = pegplanet_check(file, length);
 
-    if (length == sizeof file) {
-        puts("over 60000 bytes");
+    if (length > PEGPLANET_LIMIT_FILE) {
+        puts(pegplanet_text(PEGPLANET_REFUSED_LENGTH));
         return 2;
     }
-    if (number == PEGPLANET_GOOD) {
-        puts("good");
-        return 0;
+    if (pegplanet_refused(packed)) {
+        printf("refused %u at %u: %s\n", (unsigned)pegplanet_number(packed), (unsigned)pegplanet_place(packed),
+               pegplanet_text(pegplanet_number(packed)));
+        return 1;
     }
-    printf("refused %u at %u\n", (unsigned)pegplanet_number(number), (unsigned)pegplanet_place(number));
-    return 1;
+    puts("good");
+    return 0;
 }

@@ -6,6 +6,7 @@
 
 use second::call::{embedded, Case, Limits, Memory, Outcome};
 use second::damage::damage;
+use second::end::is_end;
 use second::generate::{case, good_program, Peaks};
 use second::machine::Machine;
 use second::random::Random;
@@ -267,9 +268,9 @@ impl Both {
                 "library {library:016X}, second program {second:016X}"
             ));
         }
-        let written = match second >> 32 {
-            20.. => (second & 0xFFFF_FFFF) as usize,
-            _ => 0,
+        let written = match is_end(second >> 32) {
+            true => (second & 0xFFFF_FFFF) as usize,
+            false => 0,
         };
         let wrong = wrong(&self.out, |place| match place.checked_sub(GUARD) {
             Some(byte) if byte < written => self.second_out[byte],

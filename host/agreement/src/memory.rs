@@ -4,6 +4,7 @@ use std::io::{BufRead, BufReader, BufWriter, Write};
 use std::process::{Command, Stdio};
 
 use second::call::{embedded, Memory, Outcome};
+use second::end::is_end;
 use second::reading::check;
 
 use crate::calls::{told, Call, Tally, WORDS};
@@ -42,7 +43,7 @@ fn line(call: &Call, memory: &mut Memory) -> (Outcome, String) {
         |()| 0,
     );
     let run = embedded(&case.file, case.budget, case.wanted, &mut out);
-    let bytes = if run >> 32 < 20 { 0 } else { run as u32 };
+    let bytes = if is_end(run >> 32) { run as u32 } else { 0 };
     let words = told[..call.words.min(WORDS)].iter();
     let numbers = [checked].into_iter().chain(words.copied());
     let numbers = numbers.chain([run, sum(&out[..bytes as usize]), told_sum]);

@@ -6,6 +6,7 @@ mod common;
 use agreement::library::{call, run as embedded};
 use common::*;
 use second::cases::{programs, Run};
+use second::end::is_end;
 use std::process::Command;
 
 /// The end or refusal number, which stands second in the line.
@@ -33,7 +34,7 @@ fn by_the_whole_call() {
             let mut bytes = run.bytes(&program);
             bytes.resize(run.case.room, 0x5A);
             assert!(out == bytes, "{}: {}", program.name, run.line);
-            let left = if due[0] >= 20 { 0 } else { 0xABCD_1234 };
+            let left = if is_end(due[0]) { 0 } else { 0xABCD_1234 };
             assert!(scratch.iter().all(|&word| word == left));
             runs += 1;
         }

@@ -15,6 +15,24 @@ fn the_header_serves_c99_and_cpp_programs() {
 }
 
 #[test]
+fn a_program_that_uses_nothing_of_the_header_has_no_warning() {
+    let source = own("nothing.c");
+    let text = "#include \"pegplanet.h\"\nint main(void) { return 0; }\n";
+    std::fs::write(&source, text).expect("a source");
+    let warnings = [
+        "-Wconversion",
+        "-Wsign-conversion",
+        "-Wshadow",
+        "-Wcast-qual",
+        "-Wunused",
+    ];
+    for (compiler, words) in [C99, CPP] {
+        let words = [words, &warnings].concat();
+        compiled((compiler, &words), &source, &format!("nothing_{compiler}"));
+    }
+}
+
+#[test]
 fn the_example_of_the_page_compiles_as_printed() {
     let page = std::fs::read_to_string(path("README.md")).expect("the page");
     let after = page.split_once("```c\n").expect("an example").1;
@@ -24,10 +42,13 @@ fn the_example_of_the_page_compiles_as_printed() {
     std::fs::write(&source, example).expect("a source");
     for (language, program) in [(C99, "page_c"), (CPP, "page_cpp")] {
         let program = compiled(language, &source, program);
-        let line = "number 20, place 0, bytes 45\n".to_string();
-        assert_eq!(said(&program, APPEND), (line, Some(0)));
-        let line = "number 4, place 69, bytes 0\n".to_string();
-        assert_eq!(said(&program, &APPEND[..69]), (line, Some(1)));
+        let lines = "an answer, proved in 1 steps
+an answer, proved in 2 steps
+number 20, no more answers, place 0
+";
+        assert_eq!(said(&program, APPEND), (lines.to_string(), Some(0)));
+        let line = "number 4, file ends where a record is due or not whole, place 69\n";
+        assert_eq!(said(&program, &APPEND[..69]), (line.to_string(), Some(1)));
     }
 }
 
@@ -38,8 +59,10 @@ fn the_check_says_what_came_of_a_file() {
         assert_eq!(said(&program, file), (format!("{line}\n"), Some(status)));
     };
     line(APPEND, "good", 0);
-    line(&APPEND[..69], "refused 4 at 69", 1);
-    line(&[1, 0, 1, 9], "refused 6 at 2", 1);
+    let short = "refused 4 at 69: file ends where a record is due or not whole";
+    line(&APPEND[..69], short, 1);
+    let arity = "refused 6 at 2: number out of range, or one record too many of a kind";
+    line(&[1, 0, 1, 9], arity, 1);
     line(&second::damage::length(60_000), "good", 0);
-    line(&second::damage::length(60_001), "over 60000 bytes", 2);
+    line(&second::damage::length(60_001), "file too long", 2);
 }

@@ -5,7 +5,8 @@
  *     memory .. past   the same, and the byte behind each file is read: a wall that stands shows it
  *
  * Standard input has calls: nine 32-bit words (lengths of file, scratch, output and result; cells, steps, work; budget, wanted), then the file.
- * Standard output gets a line for each: what the check, the call and the run said, and sums over the bytes that call and run wrote.
+ * Standard output gets a line for each: what the check, the call and the run said, and sums over the bytes that call and run wrote. The header's
+ * functions walk through what was written, through all of it but its last byte, and through the file, as though it held answers.
  */
 #define _DEFAULT_SOURCE
 #include <inttypes.h>
@@ -65,6 +66,50 @@ static uint64_t sum(const uint8_t *bytes, uint64_t count) {
     return sum;
 }
 
+/* A byte of an answer that is put together again, and what stood there. */
+static size_t again(const uint8_t *bytes, size_t place, uint32_t byte) {
+    need(bytes[place] == byte, "an answer is not what its walk says");
+    return place + 1;
+}
+
+static size_t again_two(const uint8_t *bytes, size_t place, unsigned kind, uint32_t number) {
+    place = again(bytes, place, kind);
+    place = again(bytes, place, number >> 8);
+    return again(bytes, place, number & 255);
+}
+
+/* Walks through the answers in these bytes, which lie between walls of their own; what is found is what stands there. Their number. */
+static uint64_t walk(const uint8_t *bytes, size_t count, const uint8_t *file, size_t file_length) {
+    struct buffer buffer = buffer_of(count);
+    const uint8_t *copy = buffer.start;
+    if (count > 0) {
+        memcpy(buffer.start, bytes, count);
+    }
+    struct pegplanet_cursor answers = pegplanet_answers(copy, count);
+    struct pegplanet_answer answer;
+    struct pegplanet_node node;
+    uint32_t clause;
+    uint64_t found = 0;
+    for (size_t place = 0; pegplanet_next_answer(&answers, &answer); found++) {
+        struct pegplanet_cursor values = answer.values;
+        while (pegplanet_next_value(&values, file, file_length)) {
+        }
+        place = again_two(bytes, place, PEGPLANET_KIND_ANSWER, answer.free_count);
+        place = again(bytes, place, answer.step_count >> 8);
+        place = again(bytes, place, answer.step_count & 255);
+        while (pegplanet_next_node(&answer.values, &node)) {
+            place = again_two(bytes, place, node.free ? PEGPLANET_KIND_FREE : PEGPLANET_KIND_APPLIED, node.number);
+        }
+        while (pegplanet_next_step(&answer.steps, &clause)) {
+            place = again_two(bytes, place, PEGPLANET_KIND_STEP, clause);
+        }
+        place = again(bytes, place, PEGPLANET_KIND_ANSWER_END);
+        need(answers.at == copy + place, "an answer ends elsewhere");
+    }
+    give_back(buffer);
+    return found;
+}
+
 int main(int argc, char **argv) {
     enum { FILE_LENGTH, SCRATCH, OUT, RESULT, CELLS, STEPS, WORK, BUDGET, WANTED, WORDS };
     uint32_t word[WORDS];
@@ -80,6 +125,13 @@ int main(int argc, char **argv) {
         pegplanet_call(file.start, word[FILE_LENGTH], word[CELLS], word[STEPS], word[WORK], word[BUDGET], word[WANTED], scratch.start, word[SCRATCH],
                        out.start, word[OUT], told, word[RESULT]);
         uint64_t run = pegplanet_run(file.start, word[FILE_LENGTH], word[BUDGET], word[WANTED], run_out.start, word[OUT]);
+        walk(file.start, word[FILE_LENGTH], file.start, word[FILE_LENGTH]);
+        if (word[RESULT] > PEGPLANET_RESULT_BYTES) {
+            size_t bytes = (size_t)told[PEGPLANET_RESULT_BYTES];
+            uint64_t found = told[PEGPLANET_RESULT_ANSWERS];
+            need(walk(out.start, bytes, file.start, word[FILE_LENGTH]) == found, "not as many answers as told");
+            need(found == 0 || walk(out.start, bytes - 1, file.start, word[FILE_LENGTH]) == found - 1, "an answer that is not whole");
+        }
         if (argc > 2 && ((volatile uint8_t *)file.start)[word[FILE_LENGTH]] == 1) {
             puts("past");
         }

@@ -56,6 +56,75 @@ fn the_lines_of_stops_and_refusals() {
 }
 
 #[test]
+fn ends_are_20_to_26_and_29_and_all_others_refusals() {
+    let (source, tells) = (
+        path("program/pegplanet.c"),
+        path("host/agreement/tests/tells.c"),
+    );
+    let program = linked(C99, &source, &[], &tells, "program_told");
+    for number in 1..=40 {
+        let mut command = Command::new(&program);
+        let words = format!("{number} 7 3 5 0 0 0 0 0 0 0 0");
+        let ended = run(command.env("TELLS", words), APPEND);
+        let (line, status) = match number {
+            23..=25 => (
+                format!("end {number} answers 3 units 5 bytes 0 limits too small\n"),
+                0,
+            ),
+            20..=26 | 29 => (format!("end {number} answers 3 units 5 bytes 0\n"), 0),
+            _ => (format!("refused {number} at 7\n"), 1),
+        };
+        assert_eq!(String::from_utf8_lossy(&ended.stdout), line);
+        assert_eq!(ended.status.code(), Some(status));
+    }
+}
+
+#[test]
+fn it_takes_a_file_by_its_name_and_says_how_it_is_called() {
+    let program = small_program("program_words");
+    let with = |words: &[&str], input: &[u8]| {
+        let ended = run(Command::new(&program).args(words), input);
+        let text = |bytes: &[u8]| String::from_utf8_lossy(bytes).into_owned();
+        (
+            text(&ended.stdout),
+            text(&ended.stderr),
+            ended.status.code(),
+        )
+    };
+    let append = path("examples/append.rules").display().to_string();
+    let by_name = with(&[&append], &[]);
+    assert_eq!(by_name, with(&[], APPEND));
+    assert!(by_name
+        .0
+        .starts_with("end 20 answers 2 units 18 bytes 45\n"));
+    let (help, nothing, status) = with(&["--help"], &[]);
+    assert!(help.contains("pegplanet [FILE]") && nothing.is_empty());
+    assert_eq!(status, Some(0));
+    for words in [&["--unknown"][..], &[&append, &append]] {
+        assert_eq!(with(words, APPEND), (String::new(), help.clone(), Some(2)));
+    }
+    let (nothing, said, status) = with(&["no such file"], APPEND);
+    assert!(nothing.is_empty() && said.starts_with("no such file: "));
+    assert_eq!(status, Some(2));
+    // The version is the header's, and the numbers are those of document 01.
+    let header = std::fs::read_to_string(path("include/pegplanet.h")).expect("the header");
+    let (version, ..) = with(&["--version"], &[]);
+    let version = version.strip_prefix("pegplanet ").expect("a version");
+    assert!(header.contains(&format!("VERSION \"{}\"\n", version.trim_end())));
+    let (numbers, ..) = with(&["--numbers"], &[]);
+    let numbers: Vec<_> = numbers
+        .lines()
+        .map(|line| line.split_once('\t').expect("words"))
+        .collect();
+    let refused = (1..=9).map(|number| format!("refused {number}"));
+    let ends = (20..=26).map(|number| format!("end {number}"));
+    let listed: Vec<_> = numbers.iter().map(|line| line.0.to_string()).collect();
+    assert_eq!(listed, refused.chain(ends).collect::<Vec<_>>());
+    assert_eq!(numbers[9].1, "no more answers");
+    assert_eq!(numbers[15].1, "output full");
+}
+
+#[test]
 fn it_agrees_with_the_second_program() {
     let program = small_program("program_agrees");
     let mut by_end = [0; 27];

@@ -1,5 +1,5 @@
 /* Measures the stack that each function of the library takes for the rule file on standard input, and says it beside what the header
- * states: a line each for run, call and check.
+ * states: a line each for run, call and check. Then each of them is called on a thread with the stack that the header says a thread needs.
  *
  * A thread gets a stack that is painted all over. What it painted over when it ends is what it took; what a thread takes that calls nothing
  * comes off.
@@ -7,6 +7,7 @@
 #define _POSIX_C_SOURCE 200809L
 #include "pegplanet.h"
 
+#include <limits.h>
 #include <pthread.h>
 #include <stdio.h>
 #include <stdlib.h>
@@ -63,6 +64,16 @@ static size_t taken(void *(*start)(void *)) {
     return STACK - left;
 }
 
+/* A thread with a stack of so many bytes, which has no more behind it. */
+static void on_thread(void *(*start)(void *), size_t bytes) {
+    pthread_attr_t sized;
+    pthread_t thread;
+
+    need(pthread_attr_init(&sized) == 0 && pthread_attr_setstacksize(&sized, bytes) == 0, "the size of a stack is refused");
+    need(pthread_create(&thread, &sized, start, NULL) == 0 && pthread_join(thread, NULL) == 0, "the thread does not run");
+    pthread_attr_destroy(&sized);
+}
+
 int main(void) {
     size_t none = (taken(nothing), taken(nothing));
 
@@ -70,5 +81,8 @@ int main(void) {
     printf("run %zu %d\n", taken(run) - none, PEGPLANET_RUN_STACK);
     printf("call %zu %d\n", taken(call) - none, PEGPLANET_CALL_STACK);
     printf("check %zu %d\n", taken(check) - none, PEGPLANET_CHECK_STACK);
+    on_thread(run, PEGPLANET_THREAD_STACK(PEGPLANET_RUN_STACK));
+    on_thread(call, PEGPLANET_THREAD_STACK(PEGPLANET_CALL_STACK));
+    on_thread(check, PEGPLANET_THREAD_STACK(PEGPLANET_CHECK_STACK));
     return 0;
 }

@@ -1,4 +1,5 @@
-//! The stack that the functions take is no more than the header states.
+//! The stack that the functions take is no more than the header states, and a
+//! thread with as much as the header says can call them.
 
 mod common;
 
@@ -16,12 +17,13 @@ fn line(line: &str) -> Taken {
 }
 
 #[test]
-fn no_function_takes_more_stack_than_the_header_states() {
+fn the_stack_that_the_header_states_is_enough() {
     let program = compiled(C99, &path("host/agreement/tests/stack.c"), "stack");
     let generated = from_seed(0).take(100).map(|(_, file)| file);
     let mut most: Vec<Taken> = Vec::new();
     for file in [APPEND.to_vec(), levels(32)].into_iter().chain(generated) {
         let (text, status) = said(&program, &file);
+        // A thread whose stack is too small ends the process.
         assert_eq!(status, Some(0));
         let taken: Vec<_> = text.lines().map(line).collect();
         assert_eq!(taken.len(), 3, "{text}");

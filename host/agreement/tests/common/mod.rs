@@ -26,17 +26,33 @@ pub fn own(name: &str) -> PathBuf {
 
 /// Compiles a source and links the library to it.
 pub fn compiled(language: (&str, &[&str]), source: &Path, program: &str) -> PathBuf {
-    let (compiler, language) = language;
+    let archive = path("build/libpegplanet.a");
+    linked(language, source, &[], &archive, program)
+}
+
+/// Compiles a source with headers of more folders, and links an archive or
+/// another source to it.
+pub fn linked(
+    (compiler, language): (&str, &[&str]),
+    source: &Path,
+    folders: &[&Path],
+    other: &Path,
+    program: &str,
+) -> PathBuf {
     let program = own(program);
     let mut command = Command::new(compiler);
     command
         .args(language)
         .args(["-O2", "-Wall", "-Wextra", "-pedantic", "-Werror"])
         .arg("-I")
-        .arg(path("include"))
+        .arg(path("include"));
+    for folder in folders {
+        command.arg("-I").arg(folder);
+    }
+    command
         .arg(source)
         .args(["-x", "none"])
-        .arg(path("build/libpegplanet.a"))
+        .arg(other)
         .arg("-pthread")
         .arg("-o")
         .arg(&program);
