@@ -1,42 +1,51 @@
 # make: prove and build the library and show the main job; make test: the gate; make install PREFIX=..: library, header, program and pkg-config
 # file; make bench: the library beside the second program, on many more files and by time; make valgrind: damaged files under valgrind.
 .PHONY: all append horn lib test bench valgrind install
+.DELETE_ON_ERROR:
 
-CFLAGS = -std=c99 -O2 -Wall -Wextra -pedantic -Werror
-LINK = $(CC) $(CFLAGS) -Iinclude $< build/libpegplanet.a -o $@
-PREFIX = /usr/local
-VERSION = 0.1.0
+CFLAGS ?= -O2
+OURS = -std=c99 -Wall -Wextra -pedantic -Iinclude -Ibuild
+LINK = $(CC) $(OURS) $(CPPFLAGS) $(CFLAGS) $(filter %.c,$^) build/libpegplanet.a $(LDFLAGS) -o $@
+PREFIX ?= /usr/local
+VERSION = $(shell sed -n 's/^.define PEGPLANET_VERSION "\(.*\)"/\1/p' include/pegplanet.h)
 
 all: append horn
 
 append: build/pegplanet
 	build/pegplanet < examples/append.rules | head -n 1
 
-# the house rules are the assembler's; the part comes out, and where the machine is stopped there is none
-horn: build/assemble build/extract
-	build/assemble < examples/horn/rules.txt | cmp - examples/horn/house.rules
-	build/extract examples/horn/house.rules < examples/horn/score.txt
+# the part comes out, and where the machine is stopped there is none
+horn: build/extract build/house.rules
+	build/extract build/house.rules < examples/horn/score.txt
 	@echo "With 10 units a question the machine is stopped, and no part is written:"
-	! build/extract examples/horn/house.rules 10 < examples/horn/score.txt
+	! build/extract build/house.rules 10 < examples/horn/score.txt
 
-build/pegplanet: program/pegplanet.c include/pegplanet.h lib
-	$(LINK)
-
-build/assemble build/extract: build/%: examples/horn/%.c include/pegplanet.h lib
-	$(LINK)
-
-build/memory: host/agreement/tests/memory.c include/pegplanet.h lib
-	$(LINK)
-
-# build/ is apart from target/, which the gate removes; an archive that has not changed keeps its date
-lib:
+# the proofs are gone through again where a file of the crates is newer than the library
+lib: build/libpegplanet.a
+build/libpegplanet.a: crates.txt $(shell find crates -name '*.rt' -o -name '*.antt')
 	rt staticlib embedded
 	mkdir -p build
-	cmp -s target/staticlib/libembedded.a build/libpegplanet.a || cp target/staticlib/libembedded.a build/libpegplanet.a
+	cp target/staticlib/libembedded.a $@
 
-install: build/pegplanet
+build/libpegplanet.so: build/libpegplanet.a
+	$(CC) -shared $(LDFLAGS) -Wl,-soname,libpegplanet.so -Wl,--whole-archive $< -Wl,--no-whole-archive -o $@
+
+build/pegplanet: program/pegplanet.c
+build/assemble: examples/horn/assemble.c
+build/extract: examples/horn/extract.c build/house.h
+build/memory: host/agreement/tests/memory.c
+build/pegplanet build/assemble build/extract build/memory: include/pegplanet.h build/libpegplanet.a
+	$(LINK)
+
+build/house.rules: examples/horn/rules.txt build/assemble
+	build/assemble $< > $@
+
+build/house.h: examples/horn/rules.txt build/assemble
+	build/assemble --names $< > $@
+
+install: build/libpegplanet.a build/libpegplanet.so build/pegplanet
 	mkdir -p $(DESTDIR)$(PREFIX)/lib/pkgconfig $(DESTDIR)$(PREFIX)/include $(DESTDIR)$(PREFIX)/bin
-	cp build/libpegplanet.a $(DESTDIR)$(PREFIX)/lib
+	cp build/libpegplanet.a build/libpegplanet.so $(DESTDIR)$(PREFIX)/lib
 	cp include/pegplanet.h $(DESTDIR)$(PREFIX)/include
 	cp build/pegplanet $(DESTDIR)$(PREFIX)/bin
 	sed 's|@PREFIX@|$(PREFIX)|; s|@VERSION@|$(VERSION)|' program/pegplanet.pc.in > $(DESTDIR)$(PREFIX)/lib/pkgconfig/pegplanet.pc
