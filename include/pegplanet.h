@@ -11,7 +11,7 @@
  * lie apart from each other.
  *
  * Around them stand inline functions: what a number says, the whole call with named fields, walking through answers, and putting a query into a
- * rule file. The order here: numbers, limits, the three functions, taking a packed number apart, the whole call by name, answers, queries.
+ * rule file. The order here: numbers, limits, the three functions, a packed number taken apart, the whole call by name, records, answers, queries.
  */
 #ifndef PEGPLANET_H
 #define PEGPLANET_H
