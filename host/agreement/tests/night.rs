@@ -93,7 +93,7 @@ fn log(folder: &Path) -> Vec<String> {
     let log = fs::read_to_string(folder.join("night.log")).expect("a log");
     let line = |line: &str| {
         let column: Vec<_> = line.split('\t').collect();
-        let [date, said, units, seconds, name] = column[..] else {
+        let [date, name, said, units, seconds] = column[..] else {
             panic!("{line}")
         };
         let pattern = "dddd-dd-ddTdd:dd:ddZ".chars();
@@ -242,6 +242,25 @@ nothing said      1  the program failed
 }
 
 #[test]
+fn two_ways_to_one_file_do_not_meet() {
+    for way in ways() {
+        let names: Vec<_> = (0..40)
+            .map(|number| format!("more of them/{number}.rules"))
+            .collect();
+        let files: Vec<_> = names.iter().map(|name| (name.as_str(), APPEND)).collect();
+        let twice = folder(&format!("a night with twins, {way:?}"), &files);
+        symlink(twice.join("more of them"), twice.join("the same")).expect("a link");
+        let ended = run(night(way, small_program()).arg(&twice), &[]);
+        let table = "end 20           80  no more answers\n".to_string();
+        assert_eq!(quiet(way, &ended), (table, Some(0)));
+        for name in names {
+            let answers = twice.join(name.replace(".rules", ".answers"));
+            assert_eq!(fs::read(answers).expect("answers"), WRITTEN);
+        }
+    }
+}
+
+#[test]
 fn a_file_may_have_any_name() {
     let names = [
         "-dash",
@@ -350,6 +369,7 @@ fn waiting_night(way: Way, name: &str) -> (PathBuf, PathBuf) {
         .collect();
     let files: Vec<_> = numbers.iter().map(|name| (name.as_str(), APPEND)).collect();
     let folder = folder(&format!("{name}, {way:?}"), &files);
+    fs::write(folder.join("s59.answers"), "old").expect("old answers");
     let go = folder.join("go");
     let lines = format!(
         "case $1 in
@@ -374,6 +394,8 @@ fn started(way: Way, folder: &Path, program: &Path) -> Child {
     let half =
         || fs::read(folder.join("night.log")).is_ok_and(|log| text(&log).lines().count() == 30);
     until("the first half is run", half);
+    // Answers of an earlier night are gone, also those of files to come.
+    assert!(!folder.join("s59.answers").exists());
     child
 }
 
@@ -391,6 +413,8 @@ fn an_interrupted_night_is_resumed() {
         let ended = child.wait_with_output().expect("it ends");
         let due = "end 20           30  no more answers\nof 60 files 30 were run\n".to_string();
         assert_eq!(quiet(Way::Parallel, &ended), (due, Some(1)));
+        // What a killed night would leave half written is removed.
+        fs::write(folder.join("s58.answers.part.x.1"), "end 20").expect("a part");
         // A file that was added waits for the next night.
         fs::write(folder.join("s99.rules"), APPEND).expect("a file");
         fs::write(folder.join("go"), "").expect("a file");
@@ -405,13 +429,31 @@ fn an_interrupted_night_is_resumed() {
         assert_eq!(lines, numbers.collect::<Vec<_>>());
         for entry in fs::read_dir(&folder).expect("a folder") {
             let path = entry.expect("an entry").path();
-            assert!(!path.as_os_str().as_bytes().ends_with(b".part"));
+            assert!(!text(path.as_os_str().as_bytes()).contains(".part"));
             if path.extension().is_some_and(|end| end == "answers") {
                 assert_eq!(fs::read(path).expect("answers"), WRITTEN);
             }
         }
         assert!(folder.join("s59.answers").exists() && !folder.join("s99.answers").exists());
     }
+}
+
+#[test]
+fn a_line_of_the_log_that_is_not_whole_does_not_count() {
+    if !ways().contains(&Way::Parallel) {
+        return;
+    }
+    let files = [("one.rules", APPEND), ("two.rules", APPEND)];
+    let folder = folder("a torn night", &files);
+    let ended = run(night(Way::Parallel, small_program()).arg(&folder), &[]);
+    assert_eq!(ended.status.code(), Some(0));
+    let whole = fs::read(folder.join("night.log")).expect("a log");
+    // Units and seconds of the last line take more than these bytes.
+    fs::write(folder.join("night.log"), &whole[..whole.len() - 11]).expect("a log");
+    let mut command = night(Way::Parallel, small_program());
+    let ended = run(command.arg("--resume").arg(&folder), &[]);
+    let due = "end 20            1  no more answers\nof 2 files 1 were run\n".to_string();
+    assert_eq!(quiet(Way::Parallel, &ended), (due, Some(1)));
 }
 
 #[test]
