@@ -8,10 +8,10 @@ use native.Mathlib.Omega.{arith}
 use lib.ListN.{length}
 use borrow.Author.Tests.{ltb-false}
 use Rattle.meaning.specs.Terms.{Term}
-use Rattle.meaning.specs.Kinds.{a-function, level-limit}
+use Rattle.meaning.specs.Kinds.{a-function, level-limit, todays-limits}
 use Rattle.meaning.specs.Rules.{Goal, Clause, Rules}
 use Rattle.meaning.specs.Reading.{Read, refused, read, Reader, after, _>>=_, _>>_, give, refuse, need, none-seen, all-seen, terms, goals, term-due, goal-due, end-due, item-due}
-use Rattle.meaning.specs.Reading.{next, variable, applied, term, arguments, called, goal, clause, query, no-more, items, parse}
+use Rattle.meaning.specs.Reading.{next, variable, applied, term, arguments, called, goal, clause, query, no-more, items, parse-within, parse}
 use Rattle.laws.specs.IfLaws.{if-by}
 
 module _ (file : List ℕ) where
@@ -107,7 +107,7 @@ module _ (file : List ℕ) where
         after-inside (next-inside goal-due seen at l) λ p h seen₁ at₁ l₁.
         if-by (λ (r : Reader Goal). Inside Any (r seen₁ at₁)) _ (λ e. faultless tt l₁) λ e. called-inside declared p h seen₁ at₁ l₁
 
-    clause-inside : (p : ℕ) → p ≤ F → Stays (clause file functions predicates p)
+    clause-inside : (p : ℕ) → p ≤ F → Stays (clause file todays-limits functions predicates p)
     unfolding clause _>>_ _>>=_ give
     clause-inside p h seen at l =
         after-inside (need-inside _ 6 p (fault 6 h (omega arith) (omega arith)) seen at l) λ u v seen₁ at₁ l₁.
@@ -116,7 +116,7 @@ module _ (file : List ℕ) where
         after-inside (goals-inside _ (goal-inside _) _ seen₂ at₂ l₂) λ gs x seen₃ at₃ l₃.
         after-inside (all-inside _ p h seen₃ at₃ l₃) λ y z seen₄ at₄ l₄. faultless tt l₄
 
-    query-inside : (clauses : List Clause) (p : ℕ) → p ≤ F → Stays (query file functions predicates clauses p)
+    query-inside : (clauses : List Clause) (p : ℕ) → p ≤ F → Stays (query file todays-limits functions predicates clauses p)
     unfolding query _>>_ _>>=_ give
     query-inside clauses p h seen at l =
         after-inside (need-inside _ 6 p (fault 6 h (omega arith) (omega arith)) seen at l) λ u v seen₁ at₁ l₁.
@@ -124,7 +124,7 @@ module _ (file : List ℕ) where
         after-inside (goals-inside _ (goal-inside _) _ seen₁ at₁ l₁) λ gs x seen₂ at₂ l₂.
         after-inside (all-inside _ p h seen₂ at₂ l₂) λ y z seen₃ at₃ l₃. faultless tt l₃
 
-  items-inside : (more latest : ℕ) (functions predicates : List ℕ) (clauses : List Clause) → Stays (items file more latest functions predicates clauses)
+  items-inside : (more latest : ℕ) (functions predicates : List ℕ) (clauses : List Clause) → Stays (items file todays-limits more latest functions predicates clauses)
   unfolding items _>>_ _>>=_ give no-more
   items-inside zero latest functions predicates clauses seen at l = faulty (fault 4 l (omega arith) (omega arith))
   items-inside (suc more) latest functions predicates clauses seen at l =
@@ -139,7 +139,7 @@ module _ (file : List ℕ) where
       after-inside (need-inside _ 9 at₃ (fault 9 l₃ (omega arith) (omega arith)) seen₃ at₃ l₃) λ w x seen₄ at₄ l₄. faultless tt l₄
 
   parse-inside : Inside Any (parse file)
-  unfolding parse
+  unfolding parse-within
   parse-inside = items-inside F a-function [] [] [] 0 0 (omega arith)
 
   fault-of : {n p : ℕ} → Inside {A = Rules} Any (refused n p) → Fault n p

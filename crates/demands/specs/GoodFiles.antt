@@ -6,15 +6,16 @@ use mathlib.Core.Bool.{Bool, true, false}
 use mathlib.Core.List.{List, [], _∷_, _++_}
 use mathlib.Core.Option.{some}
 use native.Mathlib.Omega.{arith}
-use lib.Dec.{ltb, leb, eqb}
+use lib.Dec.{ltb, eqb}
 use lib.ListN.{length, getD, getElem?}
 use borrow.Author.Tests.{ltb-true, leb-true, leb-false, eqb-true, not-false}
 use Rattle.meaning.specs.Terms.{Term, count}
-use Rattle.meaning.specs.Kinds.{a-function, a-clause, a-query, level-limit, arity-limit, function-limit, predicate-limit}
+use Rattle.meaning.specs.Kinds.{a-function, a-clause, level-limit, arity-limit, function-limit, predicate-limit, todays-limits}
 use Rattle.meaning.specs.Rules.{Call, Goal, call, cut, Clause, Rules}
 use Rattle.meaning.specs.Reading.{Read, refused, read, Reader, after, _>>=_, _>>_, give, refuse, need, terms, goals, term-due, goal-due, item-due}
-use Rattle.meaning.specs.Reading.{byte, next, variable, applied, term, arguments, called, goal, clause, query, items, parse}
+use Rattle.meaning.specs.Reading.{byte, next, variable, applied, term, arguments, called, goal, clause, query, items, parse-within, parse}
 use Rattle.laws.specs.IfLaws.{if-by, and-left, and-right}
+use Rattle.laws.specs.Due.{item-order}
 use Rattle.demands.specs.Proofs.{Each, Well, Wells, calls, WellCall, WellClause, WellFormed}
 use Rattle.demands.specs.Demands.{Says, GoodFilesAreWellFormed}
 
@@ -164,7 +165,7 @@ module _ (file functions predicates : List ℕ) where
       after-gives (goals-well declared n seen₁ at₁) λ gs seen₂ at₂ ws.
       this λ cs m hs. calls-both _ g gs (w cs m hs) (ws cs m hs)
 
-  clause-well : (p seen at : ℕ) → Gives (λ c. Over functions predicates λ R. WellClause R c) (clause file functions predicates p seen at)
+  clause-well : (p seen at : ℕ) → Gives (λ c. Over functions predicates λ R. WellClause R c) (clause file todays-limits functions predicates p seen at)
   unfolding clause _>>_ _>>=_ give
   clause-well p seen at =
       after-gives (need-gives _ 6 p seen at) λ u seen₁ at₁ e.
@@ -174,7 +175,7 @@ module _ (file functions predicates : List ℕ) where
       after-gives (gives-any _) λ u seen₅ at₅ t.
       this λ cs n hs. record { head = w cs n hs; body = ws cs n hs }
 
-  query-well : (clauses : List Clause) → Small functions → Small predicates → Clauses-well functions predicates clauses → (p seen at : ℕ) → Gives Well-and-small (query file functions predicates clauses p seen at)
+  query-well : (clauses : List Clause) → Small functions → Small predicates → Clauses-well functions predicates clauses → (p seen at : ℕ) → Gives Well-and-small (query file todays-limits functions predicates clauses p seen at)
   unfolding query _>>_ _>>=_ give
   query-well clauses fs ps cs p seen at =
       after-gives (gives-any _) λ u seen₁ at₁ t.
@@ -184,18 +185,6 @@ module _ (file functions predicates : List ℕ) where
       this (record { clauses = cs _ _ _; query = ws _ _ _ }, fs, ps)
 
 -- ---- the whole file
--- where a kind before the clauses is due, the latest is before the clauses too
-item-order : (latest kind k : ℕ) → item-due latest kind ≡ true → eqb kind k ≡ true → k < a-clause → latest < a-clause
-unfolding item-due
-item-order latest kind k e s h = go (leb latest kind) refl
-  where
-    same : kind ≡ k
-    same = eqb-true kind k s
-
-    go : (b : Bool) → leb latest kind ≡ b → latest < a-clause
-    go true d = omega (arith, same, leb-true latest kind d)
-    go false d = omega (arith, same, eqb-true kind a-query (rw d at e))
-
 -- the items so far: small arities, no clause where functions and predicates may still come, and the clauses are well-formed
 record So-far (latest : ℕ) (functions predicates : List ℕ) (clauses : List Clause) : Type 0 where
   functions-small : Small functions
@@ -207,7 +196,8 @@ record So-far (latest : ℕ) (functions predicates : List ℕ) (clauses : List C
 so-far-early : {latest : ℕ} {fs ps : List ℕ} {clauses : List Clause} (kind k : ℕ) {fs′ ps′ : List ℕ} → So-far latest fs ps clauses
     → Small fs′ → Small ps′ → item-due latest kind ≡ true → eqb kind k ≡ true → k < a-clause → So-far k fs′ ps′ clauses
 so-far-early {clauses} kind k so f p due e h =
-    let empty : clauses ≡ [] = so .none (item-order _ kind k due e h) in
+    let order = item-order _ kind k due (eqb-true kind k e) (omega arith) in
+    let empty : clauses ≡ [] = so .none (omega arith) in
     record { functions-small = f; predicates-small = p; none = λ l. empty; well = λ cs n gs. each-none _ clauses empty }
 
 so-far-clause : {latest : ℕ} {fs ps : List ℕ} {clauses : List Clause} (c : Clause) → So-far latest fs ps clauses
@@ -216,7 +206,7 @@ so-far-clause {clauses} c so w = record { functions-small = so .functions-small;
 
 module _ (file : List ℕ) where
   items-well : (more latest : ℕ) (functions predicates : List ℕ) (clauses : List Clause) → So-far latest functions predicates clauses
-      → (seen at : ℕ) → Gives Well-and-small (items file more latest functions predicates clauses seen at)
+      → (seen at : ℕ) → Gives Well-and-small (items file todays-limits more latest functions predicates clauses seen at)
   unfolding items _>>_ _>>=_ give
   items-well zero latest functions predicates clauses so seen at = nothing
   items-well (suc more) latest functions predicates clauses so seen at =
@@ -235,7 +225,7 @@ module _ (file : List ℕ) where
       this w
 
   parse-well : Gives Well-and-small (parse file)
-  unfolding parse
+  unfolding parse-within
   parse-well = items-well (length file) a-function [] [] [] (record { functions-small = tt; predicates-small = tt; none = λ h. refl; well = λ cs n gs. tt }) 0 0
 
 pub good-files-are-well-formed : GoodFilesAreWellFormed

@@ -13,7 +13,7 @@ use Rattle.meaning.specs.Reading.{Read, refused, read, parse}
 use Rattle.meaning.specs.Answers.{Answer, Piece, piece, pieces, bytes-of, bytes, output, Fit, fits, stops, fitting}
 use Rattle.meaning.specs.Moves.{Limits, Open, goal, cut-to, cut-idle, Derivation, Numbered, Choice, choice, Pair, Move, trying, taking, cutting, Done, State, ended, due}
 use Rattle.meaning.specs.Moves.{nothing, spend, list, pairs, keep, fail, answer, answered, put-out, answering, take-goal, go-on, matching, binding, compared, take-pair, try-head, move, start, run}
-use Rattle.meaning.specs.Call.{Result, refusal, end, ending, run-read, result}
+use Rattle.meaning.specs.Call.{Result, refusal, end, ending, run-read, result-within, result}
 use Rattle.laws.specs.IfLaws.{if-by}
 use Rattle.demands.specs.Faults.{refused-inside}
 use Rattle.demands.specs.Stops.{run-range}
@@ -135,7 +135,7 @@ read-small file L budget wanted room (refused n p) e = let f = refused-inside fi
 read-small file L budget wanted room (read R seen at) e = let (a, b) = run-range R L wanted room budget _ _ refl in (a, b, run-roomy R L wanted room budget)
 
 pub result-small : (file : List ℕ) (L : Limits) (budget wanted scratch room : ℕ) → Small file room (result file L budget wanted scratch room)
-unfolding result
+unfolding result-within
 result-small file L budget wanted scratch room =
     let G : Result → Type 0 = Small file room in
     if-by G _ (λ e. (omega arith, omega arith, omega arith)) (λ e. if-by G _ (λ f. (omega arith, omega arith, omega arith)) (λ f. if-by G _ (λ g. (omega arith, omega arith, omega arith)) (λ g. read-small file L budget wanted room (parse file) refl)))

@@ -12,7 +12,7 @@ use Rattle.meaning.specs.Rules.{Rules}
 use Rattle.meaning.specs.Reading.{Read}
 use Rattle.meaning.specs.Answers.{Answer, output}
 use Rattle.meaning.specs.Moves.{Limits, Done, run, start}
-use Rattle.meaning.specs.Call.{Result, refusal, end, in-range, needed, ending, run-read, result, output-after, scratch-after}
+use Rattle.meaning.specs.Call.{Result, refusal, end, in-range, needed, ending, run-read, result-within, result, output-after, scratch-after}
 use Rattle.meaning.specs.Terms.{count, row}
 use Rattle.demands.specs.Proofs.{Each, Wells}
 use Rattle.demands.specs.Demands.{Says, Ends, Right, Complete, ThirdDemand, ThirdDemandWithCut, OneOutcome}
@@ -35,7 +35,7 @@ not-refused n p e k u b q = let z : _≡_ {A = ℕ} 0 1 = cc in omega arith
 -- a call that comes to an end is the run of the rules that its file says
 pub result-ran : (file : List ℕ) (L : Limits) (budget wanted scratch room e n u : ℕ) (b : List ℕ) (R : Rules) → Says file R → result file L budget wanted scratch room ≡ end e n u b
     → ending (ran R L budget wanted room) ≡ end e n u b
-unfolding result run-read
+unfolding result-within run-read
 result-ran file L budget wanted scratch room e n u b R (seen, at, says) q =
     let G : Result → Type 0 = λ r. r ≡ end e n u b → ending (ran R L budget wanted room) ≡ end e n u b in
     if-by G (not (in-range L)) (λ t p. absurd (not-refused 1 0 e n u b p))

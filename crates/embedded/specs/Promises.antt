@@ -10,10 +10,11 @@ use native.Mathlib.Nat.{min-le-right}
 use lib.ListN.{length, drop}
 use borrow.Author.Tests.{ltb-false}
 use Rattle.laws.specs.IfLaws.{if-by}
+use Rattle.meaning.specs.Kinds.{todays-limits}
 use Rattle.meaning.specs.Rules.{Rules}
 use Rattle.meaning.specs.Answers.{Answer, output}
 use Rattle.meaning.specs.Call.{Result, refusal, end, result, output-after}
-use Rattle.meaning.specs.Embedded.{embedded-in, embedded, embedded-limits, embedded-scratch, room-limit, packed}
+use Rattle.meaning.specs.Embedded.{embedded-in, embedded-within, embedded, embedded-limits, embedded-scratch, room-limit, packed}
 use Rattle.demands.specs.Proofs.{Uncut}
 use Rattle.demands.specs.Demands.{Says, Ends, Correct, Complete}
 use Rattle.demands.specs.Rooms.{Small, result-small}
@@ -34,7 +35,7 @@ tight : (file : List ℕ) (room : ℕ) (r : Result) → length file ≤ 4_000 �
 tight file room (refusal n p) l h s = let k = s .2 in (s .0, s .1, omega arith)
 tight file room (end e n u b) l h s = let k = s .2 in (s .0, s .1, omega arith)
 
-pub embedded-tight : (file : List ℕ) (budget wanted room : ℕ) → room ≤ room-limit → Tight (embedded-in file budget wanted room)
+pub embedded-tight : (file : List ℕ) (budget wanted room : ℕ) → room ≤ room-limit → Tight (embedded-in todays-limits file budget wanted room)
 unfolding embedded-in
 embedded-tight file budget wanted room h =
     let good : Result = result file embedded-limits budget wanted embedded-scratch room in
@@ -62,13 +63,13 @@ module _ (file : List ℕ) (budget wanted : ℕ) (o : List ℕ) where
       ended k u w (e ∙ ap (λ (x : ℕ). end x k u w) (sym high)) (omega arith) (omega arith) g
 
   pub run-apart : (n : ℕ) (p : List ℕ) → EmbedTells file budget wanted o n p → Apart n p
-  unfolding embedded
+  unfolding embedded-within
   run-apart n p a = apart (embedded file budget wanted (length o)) refl (embedded-tight file budget wanted (min (length o) room-limit) (min-le-right (length o) room-limit)) n p (a .number) (a .output)
 
   -- ---- an end
   module _ (R : Rules) (says : Says file R) (e answers units : ℕ) (b : List ℕ) (gives : embedded file budget wanted (length o) ≡ end e answers units b) (n : ℕ) (p : List ℕ) (a : EmbedTells file budget wanted o n p) where
     whole : result file embedded-limits budget wanted embedded-scratch (min (length o) room-limit) ≡ end e answers units b
-    unfolding embedded embedded-in
+    unfolding embedded-within embedded-in
     whole =
         if-by (λ (x : Result). x ≡ end e answers units b → result file embedded-limits budget wanted embedded-scratch (min (length o) room-limit) ≡ end e answers units b) (ltb 4_000 (length file))
         (λ t q. let z : _≡_ {A = ℕ} 0 1 = cc in absurd (omega arith)) (λ t q. q) gives

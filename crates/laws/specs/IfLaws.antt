@@ -10,6 +10,12 @@ unfolding if_then_else_
 if-by P true f g = f refl
 if-by P false f g = g refl
 
+-- and what holds of two branches side by side holds of two choices by one test
+pub if-both : {A : Type 0} (P : A → A → Type 0) (b : Bool) {x y z w : A} → (b ≡ true → P x z) → (b ≡ false → P y w) → P (if b then x else y) (if b then z else w)
+unfolding if_then_else_
+if-both P true f g = f refl
+if-both P false f g = g refl
+
 pub if-true {ℓ} : {A : Type ℓ} (b : Bool) (x y : A) → b ≡ true → (if b then x else y) ≡ x
 if-true b x y e = if-by (λ z. z ≡ x) b (λ p. refl) (λ p. cc)
 

@@ -1,1 +1,3 @@
 pub mod IfLaws
+pub mod Due
+pub mod Onward

@@ -2,7 +2,7 @@
 -- Assumes nothing.
 use Prim.Native.Nat.{ℕ, zero, suc, _+_, _*_, _≤_, _<_}
 use mathlib.Core.Path.{_≡_, refl, ap, sym, subst, _∙_}
-use mathlib.Core.Bool.{Bool, true, false, _&&_, _||_, false≢true}
+use mathlib.Core.Bool.{Bool, true, false, _&&_}
 use mathlib.Core.List.{List, [], _∷_, _++_}
 use mathlib.Core.Option.{some, Option·some-injective}
 use mathlib.Core.Logic.{_⊎_, inl, inr, ⊎-elim}
@@ -10,30 +10,18 @@ use native.Mathlib.Omega.{arith}
 use lib.Dec.{leb, ltb, eqb}
 use lib.ListN.{length, getD, getElem?, take, length-append}
 use lib.Seq.{take-append-le, take-append-seam, take-all}
-use borrow.Author.Tests.{ltb-true, ltb-false, leb-true, leb-false, eqb-true, eqb-false, not-false}
+use borrow.Author.Tests.{ltb-true, ltb-false, leb-true, leb-false, eqb-true, not-false}
 use Rattle.meaning.specs.If.{if_then_else_}
 use Rattle.meaning.specs.Terms.{Term, var, app, Terms, []ₜ, _∷ₜ_, count}
-use Rattle.meaning.specs.Kinds.{body-lengths, body-length, a-function, a-predicate, a-clause, a-variable, an-application, a-goal, a-cut, a-query, the-end, variable-limit, level-limit}
+use Rattle.meaning.specs.Kinds.{body-lengths, body-length, a-function, a-predicate, a-clause, a-variable, an-application, a-goal, a-cut, a-query, the-end, variable-limit, level-limit, todays-limits}
 use Rattle.meaning.specs.Rules.{Goal, call, cut, Clause, Rules}
 use Rattle.meaning.specs.Reading.{Read, refused, read, Reader, after, _>>=_, _>>_, give, refuse, need, none-seen, all-seen, terms, goals, term-due, goal-due, item-due, end-due}
-use Rattle.meaning.specs.Reading.{byte, two-bytes, next, variable, applied, term, arguments, called, goal, clause, query, no-more, items, parse}
-use Rattle.laws.specs.IfLaws.{if-by}
+use Rattle.meaning.specs.Reading.{byte, two-bytes, next, variable, applied, term, arguments, called, goal, clause, query, no-more, items, parse-within, parse}
+use Rattle.laws.specs.IfLaws.{if-by, and-left, and-right}
+use Rattle.laws.specs.Due.{application-left, goal-left, item-order, item-kind, query-left}
 use Rattle.layout.specs.Lengths.{term-length, terms-length, goal-length, goals-length, head-length, clause-length, clauses-length, clause-place, query-place}
 use Rattle.layout.specs.Standing.{StandsTerm, StandsTerms, StandsGoal, StandsGoals, StandsClause, StandsRules}
 use Rattle.layout.specs.Fitting.{depth, depths, FitsTerm, FitsTerms, FitsCall, FitsGoal, FitsGoals, FitsClause, FitsRules}
-
--- ---- tests
-and-left : (a b : Bool) → (a && b) ≡ true → a ≡ true
-and-left true b e = refl
-and-left false b e = e
-
-and-right : (a b : Bool) → (a && b) ≡ true → b ≡ true
-and-right true b e = e
-and-right false b e = absurd (false≢true e)
-
-or-first : (a b : Bool) → (a || b) ≡ true → b ≡ false → a ≡ true
-or-first true b e f = refl
-or-first false b e f = sym f ∙ e
 
 -- a number below the length is an index
 index-known : (l : List ℕ) (i : ℕ) → i < length l → getElem? l i ≡ some (getD l i 0)
@@ -191,9 +179,6 @@ module _ (file : List ℕ) where
         variable-read levels p seen₁ at₁ k (record-ends a-variable r k ∙ omega arith) (r .within))
         λ v. let k : byte file p ≡ an-application = application-left (byte file p) (r .kind) v in
         applied-read levels _ (term-read levels) p seen₁ at₁ k (record-ends an-application r k ∙ omega arith) (r .within))
-      where
-        application-left : (kind : ℕ) → term-due kind ≡ true → eqb kind a-variable ≡ false → kind ≡ an-application
-        application-left kind due v = eqb-true kind an-application (rw v at due)
 
   -- ---- goals
   -- the goals stand at p, one after another, whatever comes then
@@ -275,10 +260,6 @@ module _ (file : List ℕ) where
         after-gives (arguments-read declared _ seen₁ at₁ (omega arith)) λ ts seen₂ at₂ r.
         this (call-read declared p at₁ _ ts at₂ k refl (ltb-true _ _ (n .0)) (e₁ ∙ e) r)
 
-    goal-left : (kind : ℕ) → goal-due kind ≡ true → eqb kind a-cut ≡ false → kind ≡ a-goal
-    unfolding goal-due
-    goal-left kind due v = eqb-true kind a-goal (or-first _ _ due v)
-
     goal-read : (declared seen at : ℕ) → Gives (GoalRead declared at) (goal file functions predicates declared seen at)
     unfolding goal _>>=_ give body-length body-lengths
     goal-read declared seen at =
@@ -330,7 +311,7 @@ module _ (file : List ℕ) where
           fits = record { variables = few; head = call-fits declared d q ts b l r; body = s .fits };
         }
 
-    clause-read : (p seen at : ℕ) → byte file p ≡ a-clause → at ≡ p + 5 → at ≤ length file → Gives (ClauseRead p) (clause file functions predicates p seen at)
+    clause-read : (p seen at : ℕ) → byte file p ≡ a-clause → at ≡ p + 5 → at ≤ length file → Gives (ClauseRead p) (clause file todays-limits functions predicates p seen at)
     unfolding clause _>>_ _>>=_ give
     clause-read p seen at k e l =
         after-gives (need-gives _ 6 p seen at) λ u seen₁ at₁ n.
@@ -350,28 +331,7 @@ unfolding clauses-length
 clauses-more [] c = omega arith
 clauses-more (d ∷ cs) c = let h = clauses-more cs c in omega arith
 
--- none may go back to a kind before the latest; what is due at the top level is no goal
-item-order : (latest kind k : ℕ) → item-due latest kind ≡ true → kind ≡ k → k ≤ a-clause → latest ≤ k
-unfolding item-due
-item-order latest kind k e same h = go (leb latest kind) refl
-  where
-    go : (b : Bool) → leb latest kind ≡ b → latest ≤ k
-    go true d = omega (arith, leb-true latest kind d)
-    go false d = omega (arith, eqb-true kind a-query (rw d at e))
-
-item-kind : (latest kind : ℕ) → item-due latest kind ≡ true → (kind ≤ a-clause) ⊎ (kind ≡ a-query)
-unfolding item-due
-item-kind latest kind e = go (eqb kind a-query) refl
-  where
-    go : (b : Bool) → eqb kind a-query ≡ b → (kind ≤ a-clause) ⊎ (kind ≡ a-query)
-    go true d = inr (eqb-true kind a-query d)
-    go false d = inl (leb-true kind a-clause (and-right (leb latest kind) (leb kind a-clause) (or-first (leb latest kind && leb kind a-clause) (eqb kind a-query) e d)))
-
-query-left : (latest kind : ℕ) → a-function ≤ latest → item-due latest kind ≡ true → eqb kind a-function ≡ false → eqb kind a-predicate ≡ false → eqb kind a-clause ≡ false → kind ≡ a-query
-query-left latest kind l e v₁ v₂ v₃ =
-    ⊎-elim (λ h. absurd (omega (arith, item-order latest kind kind e refl h, eqb-false kind a-function v₁, eqb-false kind a-predicate v₂, eqb-false kind a-clause v₃)))
-    (λ h. h) (item-kind latest kind e)
-
+-- what is due at the top level is no goal
 module _ (file : List ℕ) where
   item-no-goal : (latest p : ℕ) → item-due latest (byte file p) ≡ true → NoGoal file p
   item-no-goal latest p e = ⊎-elim (λ h. ((λ g. omega arith), (λ g. omega arith))) (λ h. ((λ g. omega arith), (λ g. omega arith))) (item-kind latest (byte file p) e)
@@ -486,7 +446,7 @@ module _ (file : List ℕ) where
       )
 
   query-read : (latest : ℕ) (fs ps : List ℕ) (cs : List Clause) (p seen at : ℕ) → So-far latest fs ps cs p → NoGoal file p → byte file p ≡ a-query → at ≡ p + 3 → at ≤ length file
-      → Gives (λ R e. NoGoal file e → e < length file → Stood R) (query file fs ps cs p seen at)
+      → Gives (λ R e. NoGoal file e → e < length file → Stood R) (query file todays-limits fs ps cs p seen at)
   unfolding query _>>_ _>>=_ give
   query-read latest fs ps cs p seen at so free k e l =
       after-gives (need-gives _ 6 p seen at) λ u seen₁ at₁ n.
@@ -496,7 +456,7 @@ module _ (file : List ℕ) where
       after-gives (all-seen-gives _ p seen₃ at₃) λ u seen₄ at₄ e₄.
       this λ out m. query-made latest fs ps cs p at₂ _ _ at₃ gs so free k (same ∙ e) refl (leb-true _ _ (and-left _ _ (n .0))) refl r (subst (NoGoal file) e₄ out) (omega arith)
 
-  items-stand : (more latest : ℕ) (fs ps : List ℕ) (cs : List Clause) (seen at : ℕ) → So-far latest fs ps cs at → Gives (λ R e. Stood R) (items file more latest fs ps cs seen at)
+  items-stand : (more latest : ℕ) (fs ps : List ℕ) (cs : List Clause) (seen at : ℕ) → So-far latest fs ps cs at → Gives (λ R e. Stood R) (items file todays-limits more latest fs ps cs seen at)
   unfolding items _>>_ _>>=_ give no-more body-length body-lengths end-due
   items-stand zero latest fs ps cs seen at so = nothing
   items-stand (suc more) latest fs ps cs seen at so₀ =
@@ -530,7 +490,7 @@ module _ (file : List ℕ) where
       this (subst (λ (y : ℕ). NoGoal file y → y < length file → Stood R) (sym here) q ((λ g. omega arith), (λ g. omega arith)) (omega arith))
 
   parse-stands : Gives (λ R e. Stood R) (parse file)
-  unfolding parse
+  unfolding parse-within
   parse-stands = items-stand (length file) a-function [] [] [] 0 0 so-far-start
 
 -- the rules of a good file stand in it, and fit

@@ -16,7 +16,7 @@ use Rattle.meaning.specs.Kinds.{file-limit}
 use Rattle.meaning.specs.Rules.{Rules}
 use Rattle.meaning.specs.Reading.{Read, refused, read, parse}
 use Rattle.meaning.specs.Moves.{Done, run, start}
-use Rattle.meaning.specs.Call.{Result, refusal, end, result, ending, run-read, in-range, needed, output-after, scratch-after}
+use Rattle.meaning.specs.Call.{Result, refusal, end, result-within, ending, run-read, in-range, needed, output-after, scratch-after}
 use Rattle.meaning.specs.Outcome.{says, to-say}
 use Rattle.meaning.specs.declared.Place.{Place}
 use Rattle.meaning.specs.declared.Outcome.{Outcome}
@@ -228,7 +228,7 @@ module _ (file : List ℕ) (l : Limits) (budget wanted : ℕ) (w o : List ℕ) w
 
   module _ (b : Bool) (e : b ≡ allowed l) where
     pub call-limits : not b ≡ true → Called file l budget wanted w o (Refused 1 (record { 0 = 0 })) w o
-    unfolding result
+    unfolding result-within
     call-limits f = refuses 1 _ (if-true (not (in-range (limits-of l))) (refusal 1 0) _ (sym (ap not e) ∙ f))
 
     module _ (f : not b ≡ false) where
@@ -236,7 +236,7 @@ module _ (file : List ℕ) (l : Limits) (budget wanted : ℕ) (w o : List ℕ) w
       no-limits s g = if-false (not (in-range (limits-of l))) (refusal 1 0) s (sym (ap not e) ∙ f) ∙ g
 
       pub call-long : 60_000 < length file → Called file l budget wanted w o (Refused 2 (record { 0 = 0 })) w o
-      unfolding result
+      unfolding result-within
       call-long h = let z = limit-is in refuses 2 _ (no-limits _ (if-true (ltb file-limit (length file)) (refusal 2 0) _ (lt-ltb file-limit (length file) (omega arith))))
 
       module _ (h : length file ≤ 60_000) (n : ℕ) (k : n ≡ needed (length file) (limits-of l)) where
@@ -244,7 +244,7 @@ module _ (file : List ℕ) (l : Limits) (budget wanted : ℕ) (w o : List ℕ) w
         not-long s g = let z = limit-is in if-false (ltb file-limit (length file)) (refusal 2 0) s (le-ltb file-limit (length file) (omega arith)) ∙ g
 
         pub call-scratch : length w < n → Called file l budget wanted w o (Refused 3 (record { 0 = 0 })) w o
-        unfolding result
+        unfolding result-within
         call-scratch q = refuses 3 _ (no-limits _ (not-long _ (if-true (ltb (length w) (needed (length file) (limits-of l))) (refusal 3 0) _ (lt-ltb (length w) (needed (length file) (limits-of l)) (omega arith)))))
 
         pub call-tested : n ≤ length w → Tested file l w
@@ -253,7 +253,7 @@ module _ (file : List ℕ) (l : Limits) (budget wanted : ℕ) (w o : List ℕ) w
   -- a file whose tests have passed
   module _ (a : Tested file l w) where
     read-result : result-of file l budget wanted w o ≡ good
-    unfolding result
+    unfolding result-within
     read-result =
         let t = a .in-limits in
         no-limits (in-range (limits-of l)) refl (ap not t) _

@@ -6,9 +6,9 @@ use mathlib.Core.List.{List, _++_}
 use lib.Dec.{leb, ltb}
 use lib.ListN.{length, drop, replicate}
 use Rattle.meaning.specs.If.{if_then_else_}
-use Rattle.meaning.specs.Kinds.{file-limit}
+use Rattle.meaning.specs.Kinds.{file-limit, RuleLimits, todays-limits}
 use Rattle.meaning.specs.Rules.{Rules}
-use Rattle.meaning.specs.Reading.{Read, refused, read, parse}
+use Rattle.meaning.specs.Reading.{Read, refused, read, parse-within}
 use Rattle.meaning.specs.Answers.{output}
 use Rattle.meaning.specs.Moves.{Limits, Done, run, start}
 
@@ -34,14 +34,18 @@ unfoldable pub run-read : Read Rules → Limits → ℕ → ℕ → ℕ → Resu
 run-read (refused n p) L budget wanted room = refusal n p
 run-read (read R seen at) L budget wanted room = ending (run R L wanted room budget (start R L wanted room))
 
--- "1, 2, 3 are tested in that order, place 0. Then the file is read forward"
-unfoldable pub result : List ℕ → Limits → ℕ → ℕ → ℕ → ℕ → Result
-result file L budget wanted scratch room =
-    let good : Result = run-read (parse file) L budget wanted room in
+-- "1, 2, 3 are tested in that order, place 0. Then the file is read forward", by these limits of a rule set
+unfoldable pub result-within : RuleLimits → List ℕ → Limits → ℕ → ℕ → ℕ → ℕ → Result
+result-within most file L budget wanted scratch room =
+    let good : Result = run-read (parse-within file most) L budget wanted room in
     if not (in-range L) then refusal 1 0 else
     if ltb file-limit (length file) then refusal 2 0 else
     if ltb scratch (needed (length file) L) then refusal 3 0 else
     good
+
+-- by today's
+abbrev pub result : List ℕ → Limits → ℕ → ℕ → ℕ → ℕ → Result
+result = result-within todays-limits
 
 -- "output beyond the bytes written is unchanged"; a refusal leaves it as it was
 unfoldable pub output-after : Result → List ℕ → List ℕ

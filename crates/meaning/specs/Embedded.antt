@@ -6,8 +6,9 @@ use mathlib.Core.List.{List, [], _∷_, _++_}
 use lib.Dec.{leb, ltb}
 use lib.ListN.{length}
 use Rattle.meaning.specs.If.{if_then_else_}
+use Rattle.meaning.specs.Kinds.{RuleLimits, todays-limits}
 use Rattle.meaning.specs.Moves.{Limits}
-use Rattle.meaning.specs.Call.{Result, refusal, end, result}
+use Rattle.meaning.specs.Call.{Result, refusal, end, result-within}
 
 -- "C 1,000, S 400, W 200"
 unfoldable pub embedded-limits : Limits
@@ -17,10 +18,10 @@ embedded-limits = record { cells = 1_000; steps = 400; work = 200 }
 abbrev pub embedded-scratch : ℕ
 embedded-scratch = 16_064
 
--- "for F up to 4,000 (else refusal 2)", where all of the output counts as room
-unfoldable pub embedded-in : List ℕ → ℕ → ℕ → ℕ → Result
-embedded-in file budget wanted room =
-    let good : Result = result file embedded-limits budget wanted embedded-scratch room in
+-- "for F up to 4,000 (else refusal 2)", where all of the output counts as room, by these limits of a rule set
+unfoldable pub embedded-in : RuleLimits → List ℕ → ℕ → ℕ → ℕ → Result
+embedded-in most file budget wanted room =
+    let good : Result = result-within most file embedded-limits budget wanted embedded-scratch room in
     if ltb 4_000 (length file) then refusal 2 0 else
     good
 
@@ -28,8 +29,12 @@ embedded-in file budget wanted room =
 abbrev pub room-limit : ℕ
 room-limit = 4_000_000_000
 
-unfoldable pub embedded : List ℕ → ℕ → ℕ → ℕ → Result
-embedded file budget wanted room = embedded-in file budget wanted (min room room-limit)
+unfoldable pub embedded-within : RuleLimits → List ℕ → ℕ → ℕ → ℕ → Result
+embedded-within most file budget wanted room = embedded-in most file budget wanted (min room room-limit)
+
+-- by today's
+abbrev pub embedded : List ℕ → ℕ → ℕ → ℕ → Result
+embedded = embedded-within todays-limits
 
 -- "end or refusal in the upper half; in the lower the bytes written after an end, the place after a refusal"
 unfoldable pub packed : Result → ℕ

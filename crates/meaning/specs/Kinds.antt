@@ -51,7 +51,7 @@ a-step = 0x0C
 abbrev pub the-answer-end : ℕ
 the-answer-end = 0x0D
 
--- the limits: bytes of a file; functions; predicates; clauses; arguments of a function or predicate; variables of a clause or query; goals of a clause or query; levels of a term, an argument itself being level 1
+-- the limits: bytes of a file; functions; predicates; arguments of a function or predicate; goals of a clause or query; levels of a term, an argument itself being level 1
 abbrev pub file-limit : ℕ
 file-limit = 60_000
 
@@ -61,17 +61,30 @@ function-limit = 1_024
 abbrev pub predicate-limit : ℕ
 predicate-limit = 1_024
 
-abbrev pub clause-limit : ℕ
-clause-limit = 4_096
-
 abbrev pub arity-limit : ℕ
 arity-limit = 8
-
-abbrev pub variable-limit : ℕ
-variable-limit = 32
 
 abbrev pub goal-limit : ℕ
 goal-limit = 16
 
 abbrev pub level-limit : ℕ
 level-limit = 32
+
+-- the limits of a rule set: clauses; variables of a clause or query
+pub record RuleLimits : Type 0 where
+  pub clauses : ℕ
+  pub variables : ℕ
+
+-- document 01's
+abbrev pub earlier-limits : RuleLimits
+earlier-limits = record { clauses = 4_096; variables = 32 }
+
+-- those of 2026-01, which hold today
+abbrev pub todays-limits : RuleLimits
+todays-limits = record { clauses = 8_192; variables = 64 }
+
+abbrev pub clause-limit : ℕ
+clause-limit = todays-limits .clauses
+
+abbrev pub variable-limit : ℕ
+variable-limit = todays-limits .variables

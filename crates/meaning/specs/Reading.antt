@@ -9,7 +9,7 @@ use lib.ListN.{length, getD}
 use Rattle.meaning.specs.If.{if_then_else_}
 use Rattle.meaning.specs.Terms.{Term, var, app, Terms, []ₜ, _∷ₜ_}
 use Rattle.meaning.specs.Kinds.{body-length, a-function, a-predicate, a-clause, a-variable, an-application, a-goal, a-cut, a-query, the-end}
-use Rattle.meaning.specs.Kinds.{function-limit, predicate-limit, clause-limit, arity-limit, variable-limit, goal-limit, level-limit}
+use Rattle.meaning.specs.Kinds.{function-limit, predicate-limit, arity-limit, goal-limit, level-limit, RuleLimits, todays-limits}
 use Rattle.meaning.specs.Rules.{Goal, call, cut, Clause, Rules}
 
 -- a refusal by number and place, or what was read, with the variables of the clause or query that have appeared, and the next place
@@ -140,56 +140,62 @@ module _ (file : List ℕ) where
     p ← next goal-due
     if eqb (byte p) a-cut then give cut else called functions predicates declared p
 
-  -- The clause whose record stands at p: its numbers (6), head arguments, goals
-  unfoldable pub clause : List ℕ → List ℕ → ℕ → Reader Clause
-  clause functions predicates p = do
-    let q : ℕ = two-bytes (p + 1)
-    let declared : ℕ = byte (p + 3)
-    let n : ℕ = byte (p + 4)
-    need (ltb q (length predicates) && leb declared variable-limit && leb n goal-limit) 6 p
-    none-seen
-    ts ← arguments functions declared (getD predicates q 0)
-    gs ← goals (goal functions predicates declared) n
-    all-seen declared p
-    give (record { variables = declared; head = record { predicate = q; arguments = ts }; body = gs })
-
-  -- The query whose record stands at p, with the rules before it: its numbers (6), its goals
-  unfoldable pub query : List ℕ → List ℕ → List Clause → ℕ → Reader Rules
-  query functions predicates clauses p = do
-    let declared : ℕ = byte (p + 1)
-    let n : ℕ = byte (p + 2)
-    need (leb declared variable-limit && leb n goal-limit) 6 p
-    none-seen
-    gs ← goals (goal functions predicates declared) n
-    all-seen declared p
-    give (record { functions = functions; predicates = predicates; clauses = clauses; variables = declared; query = gs })
-
   -- 9: "bytes after the end record", the first of them
   unfoldable pub no-more : Reader (Unit {0})
   no-more seen at = need (eqb at (length file)) 9 at seen at
 
-  -- The records of the top level, after those read, of which the latest was of this kind. One record too many of a kind is a 6.
-  -- Every record takes a byte, so the file's length counts them
-  unfoldable pub items : ℕ → ℕ → List ℕ → List ℕ → List Clause → Reader Rules
-  items zero latest functions predicates clauses = λ seen at. refused 4 at
-  items (suc more) latest functions predicates clauses = do
-    p ← next (item-due latest)
-    let arity : ℕ = byte (p + 1)
-    if eqb (byte p) a-function then (do
-      need (ltb (length functions) function-limit && leb arity arity-limit) 6 p
-      items more a-function (functions ++ arity ∷ []) predicates clauses) else
-        if eqb (byte p) a-predicate then (do
-          need (ltb (length predicates) predicate-limit && leb arity arity-limit) 6 p
-          items more a-predicate functions (predicates ++ arity ∷ []) clauses) else
-        if eqb (byte p) a-clause then (do
-          need (ltb (length clauses) clause-limit) 6 p
-          c ← clause functions predicates p
-          items more a-clause functions predicates (clauses ++ c ∷ [])) else do
-            R ← query functions predicates clauses p
-            next end-due
-            no-more
-            give R
+  -- From here on the reader goes by the limits of a rule set
+  module _ (most : RuleLimits) where
+    -- The clause whose record stands at p: its numbers (6), head arguments, goals
+    unfoldable pub clause : List ℕ → List ℕ → ℕ → Reader Clause
+    clause functions predicates p = do
+      let q : ℕ = two-bytes (p + 1)
+      let declared : ℕ = byte (p + 3)
+      let n : ℕ = byte (p + 4)
+      need (ltb q (length predicates) && leb declared (most .variables) && leb n goal-limit) 6 p
+      none-seen
+      ts ← arguments functions declared (getD predicates q 0)
+      gs ← goals (goal functions predicates declared) n
+      all-seen declared p
+      give (record { variables = declared; head = record { predicate = q; arguments = ts }; body = gs })
 
-  -- the whole file
-  unfoldable pub parse : Read Rules
-  parse = items (length file) a-function [] [] [] 0 0
+    -- The query whose record stands at p, with the rules before it: its numbers (6), its goals
+    unfoldable pub query : List ℕ → List ℕ → List Clause → ℕ → Reader Rules
+    query functions predicates clauses p = do
+      let declared : ℕ = byte (p + 1)
+      let n : ℕ = byte (p + 2)
+      need (leb declared (most .variables) && leb n goal-limit) 6 p
+      none-seen
+      gs ← goals (goal functions predicates declared) n
+      all-seen declared p
+      give (record { functions = functions; predicates = predicates; clauses = clauses; variables = declared; query = gs })
+
+    -- The records of the top level, after those read, of which the latest was of this kind. One record too many of a kind is a 6.
+    -- Every record takes a byte, so the file's length counts them
+    unfoldable pub items : ℕ → ℕ → List ℕ → List ℕ → List Clause → Reader Rules
+    items zero latest functions predicates clauses = λ seen at. refused 4 at
+    items (suc more) latest functions predicates clauses = do
+      p ← next (item-due latest)
+      let arity : ℕ = byte (p + 1)
+      if eqb (byte p) a-function then (do
+        need (ltb (length functions) function-limit && leb arity arity-limit) 6 p
+        items more a-function (functions ++ arity ∷ []) predicates clauses) else
+          if eqb (byte p) a-predicate then (do
+            need (ltb (length predicates) predicate-limit && leb arity arity-limit) 6 p
+            items more a-predicate functions (predicates ++ arity ∷ []) clauses) else
+          if eqb (byte p) a-clause then (do
+            need (ltb (length clauses) (most .clauses)) 6 p
+            c ← clause functions predicates p
+            items more a-clause functions predicates (clauses ++ c ∷ [])) else do
+              R ← query functions predicates clauses p
+              next end-due
+              no-more
+              give R
+
+    -- the whole file
+    unfoldable pub parse-within : Read Rules
+    parse-within = items (length file) a-function [] [] [] 0 0
+
+  -- the whole file, by today's limits
+  abbrev pub parse : Read Rules
+  parse = parse-within todays-limits

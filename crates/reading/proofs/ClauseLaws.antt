@@ -10,7 +10,7 @@ use lib.ListN.{length, getD}
 use borrow.Author.Tests.{lt-ltb, le-ltb, le-leb, lt-leb, eq-eqb, ne-eqb, eqb-true, not-true, not-false}
 use Rattle.meaning.specs.If.{if_then_else_}
 use Rattle.meaning.specs.Terms.{Terms}
-use Rattle.meaning.specs.Kinds.{a-clause, a-goal, a-cut, a-query, the-end, level-limit, variable-limit, goal-limit, clause-limit, body-length, body-lengths}
+use Rattle.meaning.specs.Kinds.{a-clause, a-goal, a-cut, a-query, the-end, level-limit, variable-limit, goal-limit, clause-limit, body-length, body-lengths, todays-limits}
 use Rattle.meaning.specs.Rules.{Goal, call, Clause, Rules}
 use Rattle.meaning.specs.Reading.{Read, read, Reader, after, _>>=_, _>>_, give, need, terms, goals, none-seen, all-seen, goal-due, end-due}
 use Rattle.meaning.specs.Reading.{byte, two-bytes, next, term, arguments, called, goal, clause, query, no-more}
@@ -156,7 +156,7 @@ module _ (variables n : ℕ) where
 -- ---- one clause
 module _ (file functions predicates : List ℕ) (p at : ℕ) where
   abbrev the-clause : Step
-  the-clause = step (clause file functions predicates p 0 at)
+  the-clause = step (clause file todays-limits functions predicates p 0 at)
 
   abbrev numbers : Bool
   numbers = ltb (two-bytes file (p + 1)) (length predicates) && leb (byte file (p + 3)) variable-limit && leb (byte file (p + 4)) goal-limit
@@ -226,7 +226,7 @@ module _ (file functions predicates : List ℕ) (before at : ℕ) (x : Step) (h 
     unfolding clause-after _>>=_ _>>_ need after step
     clause-many m = rw (clause-found .gives 0, le-ltb before clause-limit m)
 
-    pub clause-here : (y : Step) → before < clause-limit → y ≡ step (clause file functions predicates at 0 e) → y ≡ the-next
+    pub clause-here : (y : Step) → before < clause-limit → y ≡ step (clause file todays-limits functions predicates at 0 e) → y ≡ the-next
     unfolding clause-after _>>=_ _>>_ need after
     clause-here y m q = rw (clause-found .gives 0, lt-ltb before clause-limit m) q
 
@@ -258,7 +258,7 @@ module _ (file : List ℕ) (seen at : ℕ) (x : Step) (h : x ≡ step (next file
 -- ---- the query
 module _ (file functions predicates : List ℕ) (p at : ℕ) where
   abbrev the-query : Step
-  the-query = step (query file functions predicates [] p 0 at)
+  the-query = step (query file todays-limits functions predicates [] p 0 at)
 
   module _ (declared n : ℕ) (d : declared ≡ byte file (p + 1)) (m : n ≡ byte file (p + 2)) (b : Bool) (r : b ≡ in-range declared n) where
     asked-in-file : b ≡ (leb (byte file (p + 1)) variable-limit && leb (byte file (p + 2)) goal-limit)
@@ -306,11 +306,11 @@ module _ (file functions predicates : List ℕ) (at : ℕ) (x : Step) (h : x ≡
         let b = ap body-length a in
         omega (arith, f .end, f .inside)
 
-    last-query : the-last ≡ step (after (query file functions predicates [] at 0 e) close)
+    last-query : the-last ≡ step (after (query file todays-limits functions predicates [] at 0 e) close)
     unfolding last _>>=_ after
     last-query = rw (query-found .gives 0)
 
-    module _ (y : Step) (w : y ≡ step (query file functions predicates [] at 0 e)) where
+    module _ (y : Step) (w : y ≡ step (query file todays-limits functions predicates [] at 0 e)) where
       pub query-refused : (k : ℕ) (q : Place) → y ≡ Refused k q → Refused k q ≡ the-last
       query-refused k q u = sym (last-query ∙ after-refused _ _ (sym w ∙ u))
 

@@ -5,7 +5,7 @@ use mathlib.Core.Path.{_≡_, refl, sym, ap, _∙_}
 use mathlib.Core.List.{List, []}
 use native.Mathlib.Omega.{arith}
 use lib.ListN.{length}
-use Rattle.meaning.specs.Kinds.{a-function, a-predicate, a-clause, a-query, function-limit, predicate-limit, clause-limit}
+use Rattle.meaning.specs.Kinds.{a-function, a-predicate, a-clause, a-query, function-limit, predicate-limit, clause-limit, todays-limits}
 use Rattle.meaning.specs.Rules.{Clause, Rules}
 use Rattle.meaning.specs.Reading.{Read, refused, read, Reader, after, _>>=_, _>>_, give, end-due}
 use Rattle.meaning.specs.Reading.{byte, next, query, no-more, items, parse}
@@ -86,7 +86,7 @@ module _ (file : List ℕ) (fs ps : List ℕ) (cs : List Clause) where
   abbrev Same : Read Rules → Read Rules → Type 0
   Same = Alike (length fs) (length ps) (length cs)
 
-  query-alike : (p s e : ℕ) → Same (query file fs ps cs p s e) (query file fs ps [] p s e)
+  query-alike : (p s e : ℕ) → Same (query file todays-limits fs ps cs p s e) (query file todays-limits fs ps [] p s e)
   unfolding query _>>_ _>>=_ give
   query-alike p s e =
       alike-after _ _ _ λ u s e. alike-after _ _ _ λ u s e. alike-after _ _ _ λ gs s e. alike-after _ _ _ λ u s e. both refl refl refl
@@ -112,7 +112,7 @@ module _ (file : List ℕ) (fs ps : List ℕ) (cs : List Clause) where
 
 -- where only the query is due, it and the end are what is left
 module _ (file : List ℕ) (fs ps : List ℕ) (cs : List Clause) (latest at : ℕ) (h : latest ≤ byte file at → byte file at < suc a-clause → ⊥) where
-  items-last : (more : ℕ) → length file ≤ at + more → items file more latest fs ps cs 0 at ≡ last file fs ps cs 0 at
+  items-last : (more : ℕ) → length file ≤ at + more → items file todays-limits more latest fs ps cs 0 at ≡ last file fs ps cs 0 at
   unfolding items last _>>=_ after
   items-last zero e = rw (next-missing file (only a-query) at 0 (omega arith))
   items-last (suc more) e = item-query file more latest fs ps cs at (λ l k. h l (omega arith))

@@ -9,7 +9,7 @@ use lib.Dec.{leb, ltb}
 use lib.ListN.{length}
 use borrow.Author.Tests.{le-leb, eq-eqb, leb-true, eqb-true}
 use Rattle.meaning.specs.If.{if_then_else_}
-use Rattle.meaning.specs.Kinds.{a-function, a-predicate, a-clause, a-query, function-limit, predicate-limit, clause-limit}
+use Rattle.meaning.specs.Kinds.{a-function, a-predicate, a-clause, a-query, function-limit, predicate-limit, clause-limit, todays-limits}
 use Rattle.meaning.specs.Rules.{Clause, Rules}
 use Rattle.meaning.specs.Reading.{Read, refused, read, Reader, after, _>>=_, _>>_, need, none-seen, item-due}
 use Rattle.meaning.specs.Reading.{byte, next, clause, query, items}
@@ -26,24 +26,24 @@ need-fresh F true n p s t e m h = h
 need-fresh F false n p s t e m h = refl
 
 module _ (file functions predicates : List ℕ) (p s t e : ℕ) where
-  clause-fresh : clause file functions predicates p s e ≡ clause file functions predicates p t e
+  clause-fresh : clause file todays-limits functions predicates p s e ≡ clause file todays-limits functions predicates p t e
   unfolding clause _>>_ none-seen after
   clause-fresh = need-fresh (λ r. r) _ 6 p s t e _ refl
 
-  query-fresh : (clauses : List Clause) → query file functions predicates clauses p s e ≡ query file functions predicates clauses p t e
+  query-fresh : (clauses : List Clause) → query file todays-limits functions predicates clauses p s e ≡ query file todays-limits functions predicates clauses p t e
   unfolding query _>>_ none-seen after
   query-fresh clauses = need-fresh (λ r. r) _ 6 p s t e _ refl
 
 module _ (file : List ℕ) where
   abbrev Fresh : ℕ → Type 0
   Fresh more = (latest : ℕ) (functions predicates : List ℕ) (clauses : List Clause) (s t at : ℕ)
-      → verdict (items file more latest functions predicates clauses s at) ≡ verdict (items file more latest functions predicates clauses t at)
+      → verdict (items file todays-limits more latest functions predicates clauses s at) ≡ verdict (items file todays-limits more latest functions predicates clauses t at)
 
   fresh-more : (more : ℕ) → Fresh more → Fresh (suc more)
   unfolding items _>>_ _>>=_ after
   fresh-more more ih latest fs ps cs s t at = go (look file (item-due latest) at)
     where
-      go : Looked file (item-due latest) at → verdict (items file (suc more) latest fs ps cs s at) ≡ verdict (items file (suc more) latest fs ps cs t at)
+      go : Looked file (item-due latest) at → verdict (items file todays-limits (suc more) latest fs ps cs s at) ≡ verdict (items file todays-limits (suc more) latest fs ps cs t at)
       go (lost l) = rw (l .gives s, l .gives t)
       go (found e f) =
           let Same : Reader Rules → Type 0 = λ r. verdict (r s e) ≡ verdict (r t e) in
@@ -86,7 +86,7 @@ after-after (read a s e) f g = refl
 
 module _ (file : List ℕ) (more latest : ℕ) (functions predicates : List ℕ) (clauses : List Clause) (at : ℕ) where
   abbrev all : Read Rules
-  all = items file (suc more) latest functions predicates clauses 0 at
+  all = items file todays-limits (suc more) latest functions predicates clauses 0 at
 
   -- with the continuation K, which agrees with the definition's where the record was found
   module _ (k : ℕ) (d : item-due latest (byte file at) ≡ only k (byte file at)) where
@@ -102,21 +102,21 @@ module _ (file : List ℕ) (more latest : ℕ) (functions predicates : List ℕ)
         go (found e f) = h e (eqb-true _ _ (sym (only-eqb k (byte file at)) ∙ sym d ∙ f .kind)) f ∙ rw (← same, f .gives 0)
 
   pub item-function : byte file at ≡ a-function → latest ≤ a-function
-      → all ≡ after (declared file a-function function-limit (length functions) 0 at) (λ u. items file more a-function (functions ++ byte file (at + 1) ∷ []) predicates clauses)
+      → all ≡ after (declared file a-function function-limit (length functions) 0 at) (λ u. items file todays-limits more a-function (functions ++ byte file (at + 1) ∷ []) predicates clauses)
   unfolding declared items _>>_ _>>=_ after if_then_else_
   item-function k l =
       item-here a-function (due-from latest (byte file at) a-function l (omega arith) k) _ (λ e b f. rw (f .gives 0, eq-eqb (byte file at) a-function b))
       ∙ after-after (next file (only a-function) 0 at) _ _
 
   pub item-predicate : byte file at ≡ a-predicate → latest ≤ a-predicate
-      → all ≡ after (declared file a-predicate predicate-limit (length predicates) 0 at) (λ u. items file more a-predicate functions (predicates ++ byte file (at + 1) ∷ []) clauses)
+      → all ≡ after (declared file a-predicate predicate-limit (length predicates) 0 at) (λ u. items file todays-limits more a-predicate functions (predicates ++ byte file (at + 1) ∷ []) clauses)
   unfolding declared items _>>_ _>>=_ after if_then_else_
   item-predicate k l =
       item-here a-predicate (due-from latest (byte file at) a-predicate l (omega arith) k) _ (λ e b f. rw (f .gives 0, b))
       ∙ after-after (next file (only a-predicate) 0 at) _ _
 
   pub item-clause : byte file at ≡ a-clause → latest ≤ a-clause
-      → all ≡ after (clause-after file functions predicates (length clauses) 0 at) (λ c. items file more a-clause functions predicates (clauses ++ c ∷ []))
+      → all ≡ after (clause-after file functions predicates (length clauses) 0 at) (λ c. items file todays-limits more a-clause functions predicates (clauses ++ c ∷ []))
   unfolding clause-after items _>>_ _>>=_ after if_then_else_
   item-clause k l =
       item-here a-clause (due-from latest (byte file at) a-clause l (omega arith) k) _ (λ e b f. rw (f .gives 0, b) (after-after (need (ltb (length clauses) clause-limit) 6 at 0 e) _ _))

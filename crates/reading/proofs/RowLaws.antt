@@ -8,9 +8,9 @@ use native.Mathlib.Omega.{arith}
 use lib.Dec.{leb, ltb, eqb}
 use lib.ListN.{length, length-append}
 use borrow.Author.Tests.{lt-ltb, le-ltb, leb-true, leb-false, ltb-true, eqb-true, eqb-false, not-true, not-false}
-use Rattle.meaning.specs.Kinds.{a-function, a-predicate, a-clause, arity-limit, function-limit, predicate-limit, clause-limit, body-length, body-lengths}
+use Rattle.meaning.specs.Kinds.{a-function, a-predicate, a-clause, arity-limit, function-limit, predicate-limit, clause-limit, body-length, body-lengths, todays-limits}
 use Rattle.meaning.specs.Rules.{Clause, Rules}
-use Rattle.meaning.specs.Reading.{Read, refused, read, Reader, after, _>>=_, _>>_, need, byte, next, items, parse}
+use Rattle.meaning.specs.Reading.{Read, refused, read, Reader, after, _>>=_, _>>_, need, byte, next, items, parse-within, parse}
 use Rattle.meaning.specs.declared.Place.{Place}
 use Rattle.reading.specs.Verdict.{place, verdict}
 use Rattle.reading.specs.Arities.{arities, functions-of, predicates-of}
@@ -22,9 +22,9 @@ use Rattle.reading.specs.declared.row.Row.the-variants.{Of}
 use Rattle.reading.specs.declared.Checked.{Checked}
 use Rattle.reading.specs.declared.Checked.the-variants.{Refused as RefusedFor}
 use Rattle.laws.specs.IfLaws.{and-left}
+use Rattle.laws.specs.Onward.{Onward, onward-read, after-on, later, need-on, next-on, clause-on}
 use Rattle.reading.proofs.StepLaws.{Came, came-refused, came-next, after-refused, Found, Looked, lost, found, look, next-found, only-eqb, byte-past}
 use Rattle.reading.proofs.TermLaws.{arities-length, arities-more}
-use Rattle.reading.proofs.Onward.{Onward, onward-read, clause-after-on}
 use Rattle.reading.proofs.ItemLaws.{items-fresh, item-function, item-predicate, item-clause}
 
 -- ---- one function or predicate
@@ -106,7 +106,7 @@ here-inside file at kind e h = go _ refl
     go false l = leb-false _ _ l
 
 pub so-far-start : (file : List ℕ) → SoFar file a-function 0 0 0 0
-unfolding arities parse
+unfolding arities parse-within
 so-far-start file =
     record {
       latest = a-function;
@@ -151,7 +151,7 @@ left-one S h = let e = S .enough in omega arith
 
 module _ (file : List ℕ) (n at e : ℕ) (o : One file a-function function-limit n at e) (p : Pairs file function-limit 0 n at) (k : byte file at ≡ a-function) where
   function-more : (m latest : ℕ) (ps : List ℕ) (cs : List Clause) → latest ≤ a-function
-      → items file (suc m) latest (functions-of file n) ps cs 0 at ≡ items file m a-function (functions-of file (n + 1)) ps cs 0 e
+      → items file todays-limits (suc m) latest (functions-of file n) ps cs 0 at ≡ items file todays-limits m a-function (functions-of file (n + 1)) ps cs 0 e
   unfolding after
   function-more m latest ps cs l =
       item-function file m latest (functions-of file n) ps cs at k l
@@ -177,7 +177,7 @@ module _ (file : List ℕ) (n at e : ℕ) (o : One file a-function function-limi
 
 module _ (file : List ℕ) (functions n at e : ℕ) (o : One file a-predicate predicate-limit n at e) (p : Pairs file predicate-limit (2 * functions) n at) (k : byte file at ≡ a-predicate) where
   predicate-more : (m latest : ℕ) (fs : List ℕ) (cs : List Clause) → latest ≤ a-predicate
-      → items file (suc m) latest fs (predicates-of file functions n) cs 0 at ≡ items file m a-predicate fs (predicates-of file functions (n + 1)) cs 0 e
+      → items file todays-limits (suc m) latest fs (predicates-of file functions n) cs 0 at ≡ items file todays-limits m a-predicate fs (predicates-of file functions (n + 1)) cs 0 e
   unfolding after
   predicate-more m latest fs cs l =
       item-predicate file m latest fs (predicates-of file functions n) cs at k l
@@ -285,6 +285,14 @@ clause-few file functions predicates before s at {c} {t} {e} r = go (look file (
         absurd (let z : _≡_ {A = ℕ} 0 1 = cc in omega arith)
     go (found e′ f) = allow e′ f _ refl
 
+-- a clause goes onward
+clause-after-on : (file functions predicates : List ℕ) (before s at : ℕ) → Onward (at + 1) (clause-after file functions predicates before s at)
+unfolding clause-after _>>_ _>>=_
+clause-after-on file functions predicates before s at =
+    after-on (next-on file (only a-clause) s at) λ p s₁ e₁ k₁.
+    after-on (later k₁ (need-on _ 6 p s₁ e₁)) λ u s₂ e₂ k₂.
+    later k₂ (clause-on file functions predicates todays-limits p s₂ e₂)
+
 module _ (file : List ℕ) (functions predicates n at : ℕ) (S : SoFar file a-clause functions predicates n at) (b : Bool) (w : b ≡ eqb (byte file at) a-clause) where
   abbrev one-clause : Read Clause
   one-clause = clause-after file (functions-of file functions) (predicates-of file functions predicates) n 0 at
@@ -299,8 +307,8 @@ module _ (file : List ℕ) (functions predicates n at : ℕ) (S : SoFar file a-c
     clause-left : S .more ≡ suc (S .more - 1)
     clause-left = left-one S (here-inside file at a-clause clause-stands (omega arith))
 
-    clause-item : items file (suc (S .more - 1)) (S .latest) (functions-of file functions) (predicates-of file functions predicates) (S .read) 0 at
-        ≡ after one-clause (λ c. items file (S .more - 1) a-clause (functions-of file functions) (predicates-of file functions predicates) (S .read ++ c ∷ []))
+    clause-item : items file todays-limits (suc (S .more - 1)) (S .latest) (functions-of file functions) (predicates-of file functions predicates) (S .read) 0 at
+        ≡ after one-clause (λ c. items file todays-limits (S .more - 1) a-clause (functions-of file functions) (predicates-of file functions predicates) (S .read ++ c ∷ []))
     clause-item = item-clause file (S .more - 1) (S .latest) _ _ (S .read) at clause-stands (S .low) ∙ rw (S .many)
 
     pub clauses-refused : (m : ℕ) (q : Place) → x ≡ Refused m q → RefusedFor m q ≡ verdict (parse file)

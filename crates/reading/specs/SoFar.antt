@@ -4,7 +4,7 @@ use Prim.Native.Nat.{ℕ, _+_, _*_, _≤_, _<_}
 use mathlib.Core.Path.{_≡_}
 use mathlib.Core.List.{List}
 use lib.ListN.{length}
-use Rattle.meaning.specs.Kinds.{a-function, a-predicate, a-clause, function-limit, predicate-limit, clause-limit}
+use Rattle.meaning.specs.Kinds.{a-function, a-predicate, a-clause, function-limit, predicate-limit, clause-limit, todays-limits}
 use Rattle.meaning.specs.Rules.{Clause}
 use Rattle.meaning.specs.Reading.{byte, items, parse}
 use Rattle.reading.specs.Verdict.{verdict}
@@ -23,7 +23,7 @@ pub record SoFar (file : List ℕ) (kind functions predicates clauses at : ℕ) 
   pub many : length read ≡ clauses
   pub few : clauses ≤ clause-limit
   pub enough : length file ≤ at + more
-  pub rest : verdict (items file more latest (functions-of file functions) (predicates-of file functions predicates) read 0 at) ≡ verdict (parse file)
+  pub rest : verdict (items file todays-limits more latest (functions-of file functions) (predicates-of file functions predicates) read 0 at) ≡ verdict (parse file)
 
 -- so many records of two bytes are read by the place `at`
 pub record Pairs (file : List ℕ) (limit start n at : ℕ) : Type 0 where

@@ -4,7 +4,7 @@ use Prim.Native.Nat.{ℕ, _+_}
 use mathlib.Core.Bool.{Bool, true, _&&_, _||_}
 use mathlib.Core.List.{List}
 use lib.Dec.{leb, ltb, eqb}
-use Rattle.meaning.specs.Kinds.{a-clause, a-query, arity-limit, clause-limit, variable-limit, goal-limit}
+use Rattle.meaning.specs.Kinds.{a-clause, a-query, arity-limit, clause-limit, variable-limit, goal-limit, todays-limits}
 use Rattle.meaning.specs.Rules.{Goal, Clause, Rules}
 use Rattle.meaning.specs.Reading.{Read, refused, read, Reader, _>>=_, _>>_, give, need, goals, all-seen, end-due}
 use Rattle.meaning.specs.Reading.{byte, next, goal, clause, query, no-more}
@@ -45,12 +45,19 @@ module _ (file : List ℕ) where
     all-seen declared p
     give gs
 
+  -- the clause or query whose record stands at p, by today's limits
+  abbrev pub numbered : List ℕ → List ℕ → ℕ → Reader Clause
+  numbered = clause file todays-limits
+
+  abbrev pub asked : List ℕ → List ℕ → List Clause → ℕ → Reader Rules
+  asked = query file todays-limits
+
   -- a clause, after so many
   unfoldable pub clause-after : List ℕ → List ℕ → ℕ → Reader Clause
   clause-after functions predicates before = do
     p ← next file (only a-clause)
     need (ltb before clause-limit) 6 p
-    clause file functions predicates p
+    numbered functions predicates p
 
   -- the end record, and nothing after it
   unfoldable pub ending : Reader (Unit {0})
@@ -62,7 +69,7 @@ module _ (file : List ℕ) where
   unfoldable pub last : List ℕ → List ℕ → List Clause → Reader Rules
   last functions predicates clauses = do
     p ← next file (only a-query)
-    R ← query file functions predicates clauses p
+    R ← asked functions predicates clauses p
     next file end-due
     no-more file
     give R

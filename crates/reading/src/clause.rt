@@ -106,7 +106,7 @@ fn body(
     }
 }
 
-// "0 to 32 variables and 0 to 16 goals in a clause or query."
+// "0 to 64 variables and 0 to 16 goals in a clause or query."
 fn in_range(variables: usize, n: usize) -> bool
     ensures { λ r. ⌜ r ≡ in-range variables n ⌝ }
 {
@@ -120,7 +120,7 @@ fn in_range(variables: usize, n: usize) -> bool
 fn numbered(file: &[u8], functions: usize, predicates: usize, p: usize, at: usize) -> Step
     requires { ⌜ p + 4 < length (now file) ⌝ }
     requires { ⌜ 2 * functions + 2 * predicates ≤ length (now file) ⌝ }
-    ensures { λ r. ⌜ r ≡ step (over definition.clause (now (file .entry)) functions predicates p 0 at) ⌝ }
+    ensures { λ r. ⌜ r ≡ step (over steps.numbered (now (file .entry)) functions predicates p 0 at) ⌝ }
 {
     let declared = byte(file, p + 3);
     let n = byte(file, p + 4);
@@ -156,7 +156,7 @@ pub fn clause(file: &[u8], functions: usize, predicates: usize, before: usize, a
 fn asked(file: &[u8], functions: usize, predicates: usize, p: usize, at: usize) -> Step
     requires { ⌜ p + 2 < length (now file) ⌝ }
     requires { ⌜ 2 * functions + 2 * predicates ≤ length (now file) ⌝ }
-    ensures { λ r. ⌜ r ≡ step (over definition.query (now (file .entry)) functions predicates [] p 0 at) ⌝ }
+    ensures { λ r. ⌜ r ≡ step (over steps.asked (now (file .entry)) functions predicates [] p 0 at) ⌝ }
 {
     let declared = byte(file, p + 1);
     let n = byte(file, p + 2);

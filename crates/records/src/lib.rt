@@ -38,11 +38,11 @@ pub const FUNCTION_LIMIT: usize = 1024;
 
 pub const PREDICATE_LIMIT: usize = 1024;
 
-pub const CLAUSE_LIMIT: usize = 4096;
+pub const CLAUSE_LIMIT: usize = 8192;
 
 pub const ARITY_LIMIT: usize = 8;
 
-pub const VARIABLE_LIMIT: usize = 32;
+pub const VARIABLE_LIMIT: usize = 64;
 
 pub const GOAL_LIMIT: usize = 16;
 
