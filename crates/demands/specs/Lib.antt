@@ -2,6 +2,8 @@ pub mod Computes
 pub mod Cases
 pub mod Proofs
 pub mod Demands
+pub mod Larger
+pub mod Begins
 pub mod GoodFiles
 pub mod Faults
 pub mod Rooms
@@ -16,4 +18,6 @@ pub mod Stops
 pub mod Sofar
 pub mod Searches
 pub mod Theorems
+pub mod LargerLaws
+pub mod LargerCases
 pub mod Append

@@ -131,7 +131,7 @@ Small file room (end e n u b) = (20 ≤ e) × (e ≤ 26) × (length b ≤ room)
 
 read-small : (file : List ℕ) (L : Limits) (budget wanted room : ℕ) (r : Read Rules) → parse file ≡ r → Small file room (run-read r L budget wanted room)
 unfolding run-read ending
-read-small file L budget wanted room (refused n p) e = let f = refused-inside file n p e in let a = f .least in (omega arith, f .most, f .inside)
+read-small file L budget wanted room (refused n p) e = let f = refused-inside file n p e in let a = f .least in (omega arith, f .most, f .place .1)
 read-small file L budget wanted room (read R seen at) e = let (a, b) = run-range R L wanted room budget _ _ refl in (a, b, run-roomy R L wanted room budget)
 
 pub result-small : (file : List ℕ) (L : Limits) (budget wanted scratch room : ℕ) → Small file room (result file L budget wanted scratch room)

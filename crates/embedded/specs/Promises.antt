@@ -1,5 +1,5 @@
 -- What follows from the promises of the exported functions: one content of every buffer and one number, what the two halves of the number
--- say, and the third demand for what the embedded form wrote.
+-- say, the third demand for what the embedded form wrote, and that a file that was good by the earlier limits has them do what they did.
 -- Assumes nothing.
 use Prim.Native.Nat.{ℕ, _+_, _*_, _/_, _%_, _^_, _≤_, _<_, min}
 use mathlib.Core.Path.{_≡_, refl, sym, ap, ap₂, _∙_}
@@ -10,21 +10,46 @@ use native.Mathlib.Nat.{min-le-right}
 use lib.ListN.{length, drop}
 use borrow.Author.Tests.{ltb-false}
 use Rattle.laws.specs.IfLaws.{if-by}
-use Rattle.meaning.specs.Kinds.{todays-limits}
+use Rattle.meaning.specs.Kinds.{earlier-limits, todays-limits}
 use Rattle.meaning.specs.Rules.{Rules}
+use Rattle.meaning.specs.Reading.{parse}
 use Rattle.meaning.specs.Answers.{Answer, output}
 use Rattle.meaning.specs.Call.{Result, refusal, end, result, output-after}
 use Rattle.meaning.specs.Embedded.{embedded-in, embedded-within, embedded, embedded-limits, embedded-scratch, room-limit, packed}
+use Rattle.meaning.specs.Outcome.{to-say}
 use Rattle.demands.specs.Proofs.{Uncut}
-use Rattle.demands.specs.Demands.{Says, Ends, Correct, Complete}
+use Rattle.demands.specs.Demands.{SaysWithin, Says, LeavesWithin, Ends, Correct, Complete}
 use Rattle.demands.specs.Rooms.{Small, result-small}
 use Rattle.demands.specs.Theorems.{third-demand, third-demand-with-cut}
+use Rattle.demands.specs.LargerLaws.{accepted-before, same-result, same-embedded}
+use Rattle.reading.specs.Verdict.{verdict}
+use Rattle.machine.specs.Calling.{limits-of, result-of}
 use Rattle.search.specs.declared.Limits.{Limits}
-use Rattle.embedded.specs.Telling.{CallTells, EmbedTells}
+use Rattle.embedded.specs.Checking.{checked-number}
+use Rattle.embedded.specs.Telling.{told, CallTells, EmbedTells}
 
 -- one content of scratch, output and result
 pub call-once : (file : List ℕ) (l : Limits) (budget wanted : ℕ) (w o r : List ℕ) (u v p q s t : List ℕ) → CallTells file l budget wanted w o r u p s → CallTells file l budget wanted w o r v q t → (u ≡ v) × (p ≡ q) × (s ≡ t)
 call-once file l budget wanted w o r u v p q s t a b = (a .scratch ∙ sym (b .scratch), a .output ∙ sym (b .output), a .words ∙ sym (b .words))
+
+-- ---- larger rule sets: a file that was good by the earlier limits
+pub call-before : (file : List ℕ) (R : Rules) → SaysWithin earlier-limits file R → (l : Limits) (budget wanted : ℕ) (w o r v p s : List ℕ) → CallTells file l budget wanted w o r v p s
+    → (x : Result) × (s ≡ told (to-say x) r) × LeavesWithin earlier-limits file (limits-of l) budget wanted w o x v p
+call-before file R good l budget wanted w o r v p s a = (
+  result-of file l budget wanted w o,
+  a .words,
+  record { result-is = sym (same-result file R good (limits-of l) budget wanted (length w) (length o)); scratch-is = a .scratch; output-is = a .output },
+)
+
+pub run-before : (file : List ℕ) (R : Rules) → SaysWithin earlier-limits file R → (budget wanted : ℕ) (o : List ℕ) (n : ℕ) (p : List ℕ) → EmbedTells file budget wanted o n p
+    → (n ≡ packed (embedded-within earlier-limits file budget wanted (length o))) × (p ≡ output-after (embedded-within earlier-limits file budget wanted (length o)) o)
+run-before file R good budget wanted o n p a =
+    let e = same-embedded file R good budget wanted (length o) in
+    (a .number ∙ ap packed e, a .output ∙ ap (λ (x : Result). output-after x o) e)
+
+pub check-before : (file : List ℕ) (R : Rules) → SaysWithin earlier-limits file R → checked-number (verdict (parse file)) ≡ 0
+unfolding checked-number verdict
+check-before file R good = let (s, e, q) = accepted-before file R good in rw q refl
 
 -- ---- the numbers of a result: those of document 01's tables, and what fits the lower half
 abbrev pub Tight : Result → Type 0

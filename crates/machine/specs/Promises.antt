@@ -1,5 +1,6 @@
 -- What follows from the promise of the whole call: there is one outcome and one content of each buffer; a refusal leaves everything as
--- it was; an end leaves the needed scratch zero and the rest of it and of the output unchanged; and what the function wrote is complete.
+-- it was; an end leaves the needed scratch zero and the rest of it and of the output unchanged; what the function wrote is complete; and a
+-- file that was good by the earlier limits has it leave what it left.
 -- Assumes nothing.
 use Prim.Native.Nat.{ℕ, _≤_}
 use mathlib.Core.Path.{_≡_, refl, sym, ap, ap₂, _∙_, subst}
@@ -7,6 +8,7 @@ use mathlib.Core.List.{List, _++_}
 use lib.Dec.{eqb}
 use lib.ListN.{length, drop, replicate}
 use Rattle.meaning.specs.If.{if_then_else_}
+use Rattle.meaning.specs.Kinds.{earlier-limits}
 use Rattle.meaning.specs.Rules.{Rules}
 use Rattle.meaning.specs.Answers.{Answer, output}
 use Rattle.meaning.specs.Call.{Result, refusal, end, needed, output-after, scratch-after}
@@ -18,8 +20,9 @@ use Rattle.meaning.specs.declared.End.the-variants.{NoMore, Wanted, Budget, Cel
 use Rattle.meaning.specs.declared.Outcome.{Outcome}
 use Rattle.meaning.specs.declared.Outcome.the-variants.{Refused, Ended}
 use Rattle.demands.specs.Proofs.{Uncut}
-use Rattle.demands.specs.Demands.{Says, Ends, Correct, Complete}
+use Rattle.demands.specs.Demands.{SaysWithin, Says, LeavesWithin, Ends, Correct, Complete}
 use Rattle.demands.specs.Theorems.{third-demand, third-demand-with-cut}
+use Rattle.demands.specs.LargerLaws.{same-result}
 use Rattle.demands.specs.Rooms.{Small, result-small}
 use Rattle.search.specs.declared.Limits.{Limits}
 use Rattle.machine.specs.Calling.{limits-of, result-of, Called}
@@ -109,6 +112,11 @@ module _ (file : List ℕ) (l : Limits) (budget wanted : ℕ) (w o : List ℕ) w
   unfolding says
   called-ended e t v q a =
       rw (a .words, a .bytes) (subst (λ (s : Said). Came s words-then bytes-then) (sym (a .outcome)) (came x refl (result-small file (limits-of l) budget wanted (length w) (length o))))
+
+  -- ---- larger rule sets: a file that was good by the earlier limits
+  pub called-before : (R : Rules) → SaysWithin earlier-limits file R → (r : Outcome) (v q : List ℕ) → Called file l budget wanted w o r v q
+      → (y : Result) × (says r ≡ to-say y) × LeavesWithin earlier-limits file (limits-of l) budget wanted w o y v q
+  called-before R good r v q a = (x, a .outcome, record { result-is = sym (same-result file R good (limits-of l) budget wanted (length w) (length o)); scratch-is = a .words; output-is = a .bytes })
 
   -- ---- the third demand, for what the function wrote
   module _ (R : Rules) (says-so : Says file R) (e : End) (t : Totals) (v q : List ℕ) (a : Called file l budget wanted w o (Ended e t) v q) where
