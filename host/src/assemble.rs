@@ -99,6 +99,15 @@ pub fn variables(head: &[Tree], goals: &[TreeGoal]) -> Vec<usize> {
 }
 
 impl TreeClause {
+    /// A clause without goals.
+    pub fn fact(predicate: u16, head: Vec<Tree>) -> TreeClause {
+        TreeClause {
+            predicate,
+            head,
+            body: Vec::new(),
+        }
+    }
+
     fn put(&self, bytes: &mut Vec<u8>) {
         let variables = variables(&self.head, &self.body);
         bytes.push(CLAUSE);

@@ -1,6 +1,6 @@
 //! The stored table of the programs run by hand in document 01, cases.txt.
 
-use crate::call::{Case, EMBEDDED};
+use crate::call::{Case, EMBEDDED, EMBEDDED_FILE};
 
 const TABLE: &str = include_str!("../cases.txt");
 
@@ -21,14 +21,35 @@ pub struct Run {
 }
 
 impl Run {
+    /// A run with limits and settings of the small program, except where these
+    /// words say others.
+    pub(crate) fn new(file: &[u8], settings: &str, line: &str) -> Run {
+        let mut case = Case::new(file, EMBEDDED);
+        let words: Vec<_> = settings.split_whitespace().collect();
+        for setting in words.chunks(2) {
+            let value = number(setting[1]);
+            match setting[0] {
+                "budget" => case.budget = value as u32,
+                "wanted" => case.wanted = value as u32,
+                "room" => case.room = value,
+                "cells" => case.limits.cells = value as u32,
+                "steps" => case.limits.steps = value as u32,
+                _ => panic!("{settings} is no setting"),
+            }
+        }
+        case.scratch_len = case.limits.scratch(file.len());
+        let line = line.to_string();
+        Run { case, line }
+    }
+
     /// Whether the small program can carry it out.
     pub fn is_plain(&self) -> bool {
-        self.case == Case::new(&self.case.file, EMBEDDED)
+        self.is_embedded() && self.case == Case::new(&self.case.file, EMBEDDED)
     }
 
     /// Whether the embedded form can carry it out.
     pub fn is_embedded(&self) -> bool {
-        self.case.limits == EMBEDDED
+        self.case.limits == EMBEDDED && self.case.file.len() <= EMBEDDED_FILE
     }
 
     /// The number that follows a word in the line; 0 where the word is missing.
@@ -54,24 +75,6 @@ pub fn bytes(text: &str) -> Vec<u8> {
     text.split_whitespace().map(byte).collect()
 }
 
-fn run(file: &[u8], settings: &str, line: &str) -> Run {
-    let mut case = Case::new(file, EMBEDDED);
-    if let Some((name, value)) = settings.trim().split_once(' ') {
-        let value = number(value) as u32;
-        match name {
-            "budget" => case.budget = value,
-            "wanted" => case.wanted = value,
-            "room" => case.room = value as usize,
-            "cells" => case.limits.cells = value,
-            "steps" => case.limits.steps = value,
-            _ => panic!("{settings} is no setting"),
-        }
-        case.scratch_len = case.limits.scratch(file.len());
-    }
-    let line = line.to_string();
-    Run { case, line }
-}
-
 /// All programs of the table.
 pub fn programs() -> Vec<Program> {
     let mut programs: Vec<Program> = Vec::new();
@@ -94,7 +97,7 @@ pub fn programs() -> Vec<Program> {
             program.answers.push(bytes(answer));
         } else if let Some((settings, line)) = line.split_once(": ") {
             let settings = settings.strip_prefix("run").expect("a run");
-            program.runs.push(run(&program.file, settings, line));
+            program.runs.push(Run::new(&program.file, settings, line));
         } else {
             panic!("{line} is no line of the table");
         }

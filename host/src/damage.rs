@@ -1,7 +1,9 @@
-//! Damaged rule files, and files at and beyond each limit of document 01.
+//! Damaged rule files, and files at and beyond each limit.
 
 use crate::assemble::{program, Program, Tree, TreeClause, TreeGoal};
+use crate::call::FILE;
 use crate::random::Random;
+use crate::reading::{ARITY, CLAUSES, FUNCTIONS, GOALS, LEVELS, PREDICATES, VARIABLES};
 use crate::record::*;
 
 /// The places of the records of a file, as far as its kinds are known.
@@ -13,6 +15,31 @@ pub fn places(file: &[u8]) -> Vec<usize> {
         at += size(file[at]);
     }
     places
+}
+
+/// How large a rule set is.
+#[derive(Clone, Copy, Debug, Default)]
+pub struct Counts {
+    pub clauses: usize,
+    /// The most that a clause declares.
+    pub clause_variables: u8,
+    pub query_variables: u8,
+}
+
+/// What the records of a file say, whether it is good or not.
+pub fn counts(file: &[u8]) -> Counts {
+    let mut counts = Counts::default();
+    for place in places(file) {
+        match file[record(file, place)] {
+            [CLAUSE, _, _, variables, _] => {
+                counts.clauses += 1;
+                counts.clause_variables = counts.clause_variables.max(variables);
+            }
+            [QUERY, variables, _] => counts.query_variables = variables,
+            _ => {}
+        }
+    }
+    counts
 }
 
 /// One random damage.
@@ -92,15 +119,16 @@ fn change_body(random: &mut Random, file: &mut [u8], kind: impl Fn(u8) -> bool) 
 
 /// A file at a limit, or `over` beyond it.
 pub fn at_limit(random: &mut Random, over: usize) -> Vec<u8> {
-    match random.below(8) {
-        0 => functions(1024 + over),
-        1 => predicates(1024 + over),
-        2 => clauses(4096 + over),
-        3 => arity(8 + over),
-        4 => variables(32 + over),
-        5 => goals(16 + over),
-        6 => levels(32 + over),
-        _ => length(60_000 + over),
+    match random.below(9) {
+        0 => functions(FUNCTIONS + over),
+        1 => predicates(PREDICATES + over),
+        2 => clauses(CLAUSES + over),
+        3 => arity(ARITY + over),
+        4 => variables(VARIABLES + over),
+        5 => clause_variables(VARIABLES + over),
+        6 => goals(GOALS + over),
+        7 => levels(LEVELS + over),
+        _ => length(FILE + over),
     }
 }
 
@@ -124,16 +152,11 @@ pub fn predicates(count: usize) -> Vec<u8> {
     .bytes()
 }
 
-/// A file with so many clauses.
+/// A file with so many clauses, each of them an answer.
 pub fn clauses(count: usize) -> Vec<u8> {
-    let fact = TreeClause {
-        predicate: 0,
-        head: Vec::new(),
-        body: Vec::new(),
-    };
     Program {
         predicates: vec![0],
-        clauses: vec![fact; count],
+        clauses: vec![TreeClause::fact(0, Vec::new()); count],
         query: vec![TreeGoal::Call(0, Vec::new())],
         ..Program::default()
     }
@@ -149,16 +172,42 @@ pub fn arity(arity: usize) -> Vec<u8> {
     .bytes()
 }
 
-/// A file whose query has so many variables.
+/// So many variables in rows of eight; the last one fills its row.
+fn rows(count: usize) -> impl Iterator<Item = Vec<Tree>> {
+    let variable = move |place: usize| Tree::Variable(place.min(count - 1));
+    let row = move |row: usize| (row * ARITY..(row + 1) * ARITY).map(variable);
+    (0..count.div_ceil(ARITY)).map(move |number| row(number).collect())
+}
+
+/// A file whose query has so many variables. A fact of eight others meets its
+/// goals and leaves them free.
 pub fn variables(count: usize) -> Vec<u8> {
-    let goal = |goal: usize| {
-        let variable = |i: usize| Tree::Variable((goal * 8 + i).min(count - 1));
-        TreeGoal::Call(0, (0..8).map(variable).collect())
+    Program {
+        predicates: vec![ARITY as u8],
+        clauses: rows(ARITY).map(|row| TreeClause::fact(0, row)).collect(),
+        query: rows(count).map(|row| TreeGoal::Call(0, row)).collect(),
+        ..Program::default()
+    }
+    .bytes()
+}
+
+/// A file with a clause of so many variables: eight in its head, the others in
+/// its goals. A constant becomes the value of each.
+pub fn clause_variables(count: usize) -> Vec<u8> {
+    let constants = vec![Tree::Applied(0, Vec::new()); ARITY];
+    let mut rows = rows(count);
+    let head = rows.next().expect("a variable");
+    let body = rows.map(|row| TreeGoal::Call(1, row)).collect();
+    let clause = TreeClause {
+        predicate: 0,
+        head,
+        body,
     };
     Program {
-        predicates: vec![8],
-        query: (0..count.div_ceil(8)).map(goal).collect(),
-        ..Program::default()
+        functions: vec![0],
+        predicates: vec![ARITY as u8; 2],
+        clauses: vec![clause, TreeClause::fact(1, constants.clone())],
+        query: vec![TreeGoal::Call(0, constants)],
     }
     .bytes()
 }
@@ -200,7 +249,7 @@ pub fn length(bytes: usize) -> Vec<u8> {
     program.clauses.resize(1 + more, clause);
     let mut missing = (bytes - one) % size;
     for clause in &mut program.clauses {
-        let cuts = missing.min(15);
+        let cuts = missing.min(GOALS - clause.body.len());
         clause.body.extend(vec![TreeGoal::Cut; cuts]);
         missing -= cuts;
     }

@@ -71,6 +71,16 @@ pub fn walks(edges: &[(usize, usize)]) -> String {
     format!("{edges} walk(X,X,[X]). walk(X,Z,[X|P]) :- edge(X,Y), walk(Y,Z,P). ?- walk(n0,Z,P).")
 }
 
+/// Two tables of one column, joined: a row has a number on the left and one on
+/// the right, and stands with a fact beside both.
+pub fn joined(rows: &[(usize, usize)]) -> String {
+    let rows: String = rows
+        .iter()
+        .map(|(a, b)| format!("left(n{a}). beside. right(n{b}). "))
+        .collect();
+    format!("{rows} both(X) :- left(X), right(X), once. once :- beside, !. ?- both(X).")
+}
+
 /// The numbers, without end.
 pub fn numbers() -> String {
     "nat(z). nat(s(N)) :- nat(N). ?- nat(X).".to_string()

@@ -6,14 +6,14 @@
 //! below or just above some of them.
 
 use crate::assemble::{program, Program};
-use crate::call::{Case, Limits};
+use crate::call::{Case, Limits, FILE};
 use crate::damage::{at_limit, damage, levels};
 use crate::end::End;
 use crate::examples::*;
 use crate::machine::{Machine, Watch};
 use crate::random::Random;
 use crate::random_programs::*;
-use crate::reading::read;
+use crate::reading::{read, CLAUSES, LEVELS};
 
 /// The case of a seed.
 pub fn case(seed: u64) -> Case {
@@ -34,7 +34,7 @@ pub fn case(seed: u64) -> Case {
 
 fn damaged(random: &mut Random) -> Vec<u8> {
     let mut file = match random.percent(4) {
-        true => levels(random.between(31, 34)),
+        true => levels(random.between(LEVELS - 1, LEVELS + 2)),
         false => good_program(random).bytes(),
     };
     for _ in 0..*random.one_of(&[1, 1, 1, 1, 2, 3]) {
@@ -50,15 +50,18 @@ pub fn good_program(random: &mut Random) -> Program {
         0..=44 => known_program(random),
         45..=49 => bare_or_full(random),
         50..=57 => {
-            let levels = random.between(1, 32);
+            let levels = random.between(1, LEVELS);
             wide_and_deep(random, levels)
         }
         58..=60 => {
-            let most = *random.one_of(&[20, 20, 20, 200, 200, 4096]);
-            let facts = random.between(1, most);
-            fact_table(random, facts)
+            let most = *random.one_of(&[20, 20, 20, 200, 200, CLAUSES, CLAUSES]);
+            match random.between(1, most) {
+                facts if facts > CLAUSES / 2 => large_table(random, facts),
+                facts => fact_table(random, facts),
+            }
         }
         61..=64 => random_program(random, LARGE),
+        65..=67 => meeting_variables(random),
         _ => random_program(random, SMALL),
     };
     if random.percent(25) {
@@ -243,7 +246,7 @@ fn bad_limit(random: &mut Random, limits: &mut Limits) {
 
 /// More bytes than a file may have, with or without scratch for them.
 fn too_long(random: &mut Random, case: &mut Case) {
-    case.file.resize(60_000 + random.between(1, 3), 0);
+    case.file.resize(FILE + random.between(1, 3), 0);
     if random.percent(50) && case.limits.in_range() {
         case.scratch_len = case.limits.scratch(case.file.len());
     }

@@ -1,4 +1,5 @@
-//! The second program: document 01 written again, from the document alone.
+//! The second program: document 01, with the limits of request 2026-01, written
+//! again, from the documents alone.
 //!
 //! One call gets a rule file, the limits, a unit budget, the number of answers
 //! wanted, scratch memory and an output buffer. It checks the file, runs its
@@ -14,12 +15,14 @@
 //! Beside them stand the makers of rule files: `assemble` (bytes from trees
 //! and from a text form), `examples` and `random_programs` (good files),
 //! `damage` (bad ones), and `generate` (whole cases for comparisons). `cases`
-//! reads the stored table of document 01's own cases.
+//! reads the stored table of document 01's own cases, and `boundaries` has files
+//! at the limits of clauses and variables with what comes of them.
 
 #![forbid(unsafe_code)]
 
 pub mod answer;
 pub mod assemble;
+pub mod boundaries;
 pub mod call;
 pub mod cases;
 pub mod cells;

@@ -3,6 +3,7 @@
 
 use crate::assemble::{Program, Tree, TreeClause, TreeGoal};
 use crate::random::Random;
+use crate::reading::{ARITY, GOALS, VARIABLES};
 
 /// How large a random program may be.
 #[derive(Clone, Copy, Debug)]
@@ -29,10 +30,10 @@ pub const SMALL: Size = Size {
 pub const LARGE: Size = Size {
     functions: 8,
     predicates: 8,
-    arity: 8,
+    arity: ARITY,
     clauses: 20,
-    goals: 16,
-    variables: 32,
+    goals: GOALS,
+    variables: VARIABLES,
     levels: 4,
 };
 
@@ -122,7 +123,7 @@ pub fn add_cuts(random: &mut Random, program: &mut Program) {
             Some(clause) => &mut clause.body,
             None => &mut program.query,
         };
-        if goals.len() < 16 {
+        if goals.len() < GOALS {
             goals.insert(random.between(0, goals.len()), TreeGoal::Cut);
         }
     }
@@ -138,7 +139,7 @@ pub fn shuffle_clauses(random: &mut Random, program: &mut Program) {
 /// Two terms of so many levels, with wide functions, that meet; or one that
 /// becomes an answer's value.
 pub fn wide_and_deep(random: &mut Random, levels: usize) -> Program {
-    let arity = random.between(1, 8);
+    let arity = random.between(1, ARITY);
     let position = random.below(arity);
     let nested = |random: &mut Random| {
         let mut tree = leaf(random);
@@ -157,11 +158,7 @@ pub fn wide_and_deep(random: &mut Random, levels: usize) -> Program {
     Program {
         functions: vec![0, arity as u8],
         predicates: vec![1],
-        clauses: vec![TreeClause {
-            predicate: 0,
-            head,
-            body: Vec::new(),
-        }],
+        clauses: vec![TreeClause::fact(0, head)],
         query: vec![TreeGoal::Call(0, vec![asked])],
     }
 }
@@ -177,10 +174,9 @@ fn leaf(random: &mut Random) -> Tree {
 pub fn fact_table(random: &mut Random, facts: usize) -> Program {
     let constants = random.between(1, 40);
     let constant = |random: &mut Random| Tree::Applied(random.below(constants) as u16, Vec::new());
-    let fact = |random: &mut Random| TreeClause {
-        predicate: random.below(2) as u16,
-        head: vec![constant(random), constant(random)],
-        body: Vec::new(),
+    let fact = |random: &mut Random| {
+        let predicate = random.below(2) as u16;
+        TreeClause::fact(predicate, vec![constant(random), constant(random)])
     };
     let clauses = (0..facts).map(|_| fact(random)).collect();
     let middle = Tree::Variable(1);
@@ -195,40 +191,117 @@ pub fn fact_table(random: &mut Random, facts: usize) -> Program {
     }
 }
 
+/// So many facts, more than a file has room for with two constants each: most
+/// have no argument, few have one, and the query joins two predicates of those.
+pub fn large_table(random: &mut Random, facts: usize) -> Program {
+    let constants = random.between(1, 4);
+    let argument = |random: &mut Random| match random.percent(5) {
+        true => Tree::Variable(0),
+        false => Tree::Applied(random.below(constants) as u16, Vec::new()),
+    };
+    let one_in = *random.one_of(&[2, 400, 400]);
+    let fact = |random: &mut Random| match random.below(one_in) {
+        0 => TreeClause::fact(random.between(1, 2) as u16, vec![argument(random)]),
+        _ => TreeClause::fact(0, Vec::new()),
+    };
+    let clauses = (0..facts).map(|_| fact(random)).collect();
+    let asked = match random.percent(50) {
+        true => Tree::Variable(0),
+        false => argument(random),
+    };
+    Program {
+        functions: vec![0; constants],
+        predicates: vec![0, 1, 1],
+        clauses,
+        query: vec![
+            TreeGoal::Call(1, vec![asked.clone()]),
+            TreeGoal::Call(2, vec![asked]),
+        ],
+    }
+}
+
+/// A query or a clause of up to 64 variables: all of them appear first, and
+/// then a few of them meet each other and terms that hold them.
+pub fn meeting_variables(random: &mut Random) -> Program {
+    let rows = random.between(1, VARIABLES / ARITY);
+    let mut goals: Vec<_> = (0..rows)
+        .map(|number| TreeGoal::Call(0, row(number * ARITY)))
+        .collect();
+    let few: Vec<_> = (0..random.between(2, 6))
+        .map(|_| Tree::Variable(random.below(rows * ARITY)))
+        .collect();
+    let term = |random: &mut Random| {
+        let arity = random.below(3);
+        let inner = |_| random.one_of(&few).clone();
+        match arity {
+            0 => random.one_of(&few).clone(),
+            _ => Tree::Applied(arity as u16 - 1, (0..arity).map(inner).collect()),
+        }
+    };
+    for _ in 0..random.between(1, GOALS - rows) {
+        goals.push(TreeGoal::Call(1, vec![term(random), term(random)]));
+    }
+    let mut program = Program {
+        functions: vec![1, 2],
+        predicates: vec![ARITY as u8, 2, 0],
+        clauses: vec![
+            TreeClause::fact(0, row(0)),
+            TreeClause::fact(1, vec![Tree::Variable(0); 2]),
+        ],
+        query: goals,
+    };
+    if random.percent(50) {
+        // The clause's variables have the cells of another goal before them.
+        let before = TreeGoal::Call(1, vec![Tree::Variable(0); 2]);
+        let query = vec![before, TreeGoal::Call(2, Vec::new())];
+        program.clauses.push(TreeClause {
+            predicate: 2,
+            head: Vec::new(),
+            body: std::mem::replace(&mut program.query, query),
+        });
+    }
+    program
+}
+
+/// Eight variables, from this one on.
+fn row(first: usize) -> Vec<Tree> {
+    (first..first + ARITY).map(Tree::Variable).collect()
+}
+
 /// A program with much of nothing, or as much as is allowed.
 pub fn bare_or_full(random: &mut Random) -> Program {
     let mut program = Program::default();
     match random.below(5) {
         0 => {}
-        1 => program.query = vec![TreeGoal::Cut; random.between(0, 16)],
+        1 => program.query = vec![TreeGoal::Cut; random.between(0, GOALS)],
         2 => {
             program.predicates = vec![0];
-            program.query = vec![TreeGoal::Call(0, Vec::new()); random.between(1, 16)];
+            program.query = vec![TreeGoal::Call(0, Vec::new()); random.between(1, GOALS)];
         }
         _ => full(random, &mut program),
     }
     program
 }
 
-/// Arity 8, 32 variables and 16 goals in the query; clauses with as many.
+/// Arity 8, 64 variables and 8 to 16 goals in the query; clauses with as many.
 fn full(random: &mut Random, program: &mut Program) {
-    let eight = |first: usize| (first..first + 8).map(Tree::Variable).collect::<Vec<_>>();
-    let goals = random.between(4, 16);
-    let call = |goal: usize| TreeGoal::Call((goal % 2) as u16, eight(goal % 4 * 8));
-    program.functions = vec![8];
-    program.predicates = vec![8, 8];
-    program.query = (0..goals).map(call).collect();
+    let rows = VARIABLES / ARITY;
+    let goals = |count: usize, predicates: usize| {
+        let call = |goal| TreeGoal::Call((goal % predicates) as u16, row(goal % rows * ARITY));
+        (0..count).map(call).collect()
+    };
+    program.functions = vec![ARITY as u8];
+    program.predicates = vec![ARITY as u8; 2];
+    program.query = goals(random.between(rows, GOALS), 2);
     program.clauses = (0..2)
-        .map(|predicate| TreeClause {
-            predicate,
-            head: eight(0),
-            body: Vec::new(),
-        })
+        .map(|predicate| TreeClause::fact(predicate, row(0)))
         .collect();
     if random.percent(50) {
-        let mut head = eight(0);
-        head[random.below(8)] = Tree::Applied(0, eight(random.below(16)));
-        let body = (0..random.between(1, 4)).map(call).collect();
+        let mut head = row(0);
+        let inner = row(random.between(0, VARIABLES - ARITY));
+        head[random.below(ARITY)] = Tree::Applied(0, inner);
+        // It calls itself, or not.
+        let body = goals(random.between(1, GOALS), random.between(1, 2));
         program.clauses.insert(
             0,
             TreeClause {

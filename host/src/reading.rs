@@ -7,15 +7,19 @@
 use crate::end::Refusal;
 use crate::record::*;
 use crate::rules::{Applied, Call, Clause, ClauseNumber, Goal, Query, Range};
-use crate::rules::{Rules, Term, TermNumber};
+use crate::rules::{Rules, Term, TermNumber, VariableSet};
 
-pub const FUNCTIONS: usize = 1024;
-pub const PREDICATES: usize = 1024;
-pub const CLAUSES: usize = 4096;
-pub const ARITY: u8 = 8;
-pub const VARIABLES: u8 = 32;
-pub const GOALS: u8 = 16;
-pub const LEVELS: u32 = 32;
+// The most that a rule file may have; of clauses and variables by request 2026-01.
+pub const FUNCTIONS: usize = 1_024;
+pub const PREDICATES: usize = 1_024;
+pub const CLAUSES: usize = 8_192;
+pub const ARITY: usize = 8;
+pub const VARIABLES: usize = 64;
+pub const GOALS: usize = 16;
+pub const LEVELS: usize = 32;
+
+// A set has a bit for each variable.
+const _: () = assert!(VARIABLES <= VariableSet::BITS as usize);
 
 /// Reads a rule file into rules.
 pub fn read(file: &[u8]) -> Result<Rules, Refusal> {
@@ -46,7 +50,7 @@ trait Keep {
     fn goals(&self) -> u32;
     /// Numbers for so many terms, side by side.
     fn side_by_side(&mut self, terms: u8) -> TermNumber;
-    fn term(&mut self, number: TermNumber, term: Term, variables: u32);
+    fn term(&mut self, number: TermNumber, term: Term, variables: VariableSet);
 }
 
 struct Nothing;
@@ -62,7 +66,7 @@ impl Keep for Nothing {
     fn side_by_side(&mut self, _: u8) -> TermNumber {
         TermNumber(0)
     }
-    fn term(&mut self, _: TermNumber, _: Term, _: u32) {}
+    fn term(&mut self, _: TermNumber, _: Term, _: VariableSet) {}
 }
 
 impl Keep for Rules {
@@ -86,7 +90,7 @@ impl Keep for Rules {
         self.terms.side_by_side(terms)
     }
     #[inline]
-    fn term(&mut self, number: TermNumber, term: Term, variables: u32) {
+    fn term(&mut self, number: TermNumber, term: Term, variables: VariableSet) {
         self.terms.set(number, term, variables);
     }
 }
@@ -114,6 +118,11 @@ impl Record<'_> {
             refuse(6, self.place)
         }
     }
+}
+
+/// Whether a clause or query may have so many variables and goals.
+fn counts_in_range(variables: u8, goals: u8) -> bool {
+    variables as usize <= VARIABLES && goals as usize <= GOALS
 }
 
 #[cold]
@@ -190,13 +199,13 @@ impl<'a, K: Keep> Reader<'a, K> {
     }
 
     fn function(&mut self, record: Record) -> Result<(), Refusal> {
-        record.in_range(record.body[0] <= ARITY && self.functions < FUNCTIONS)?;
+        record.in_range(record.body[0] as usize <= ARITY && self.functions < FUNCTIONS)?;
         self.functions += 1;
         Ok(())
     }
 
     fn predicate(&mut self, record: Record) -> Result<(), Refusal> {
-        record.in_range(record.body[0] <= ARITY && self.predicates < PREDICATES)?;
+        record.in_range(record.body[0] as usize <= ARITY && self.predicates < PREDICATES)?;
         self.predicates += 1;
         self.keep.predicate();
         Ok(())
@@ -218,8 +227,7 @@ impl<'a, K: Keep> Reader<'a, K> {
         record.in_range(
             self.clauses < CLAUSES
                 && (predicate as usize) < self.predicates
-                && variables <= VARIABLES
-                && goals <= GOALS,
+                && counts_in_range(variables, goals),
         )?;
         let number = ClauseNumber(self.clauses as u16);
         self.clauses += 1;
@@ -241,7 +249,7 @@ impl<'a, K: Keep> Reader<'a, K> {
 
     fn query(&mut self, record: Record) -> Result<(), Refusal> {
         let (variables, goals) = (record.body[0], record.body[1]);
-        record.in_range(variables <= VARIABLES && goals <= GOALS)?;
+        record.in_range(counts_in_range(variables, goals))?;
         self.declare(variables);
         let goals = self.goals(goals)?;
         self.all_appeared(record.place)?;
@@ -297,7 +305,11 @@ impl<'a, K: Keep> Reader<'a, K> {
     }
 
     /// So many terms, side by side, and the set of variables in them.
-    fn arguments(&mut self, arity: u8, levels: u32) -> Result<(TermNumber, u32), Refusal> {
+    fn arguments(
+        &mut self,
+        arity: u8,
+        levels: usize,
+    ) -> Result<(TermNumber, VariableSet), Refusal> {
         let first = self.keep.side_by_side(arity);
         let mut all = 0;
         for argument in 0..arity as u32 {
@@ -311,7 +323,7 @@ impl<'a, K: Keep> Reader<'a, K> {
 
     /// A term, with so many levels left for it and what is inside it; and the
     /// set of variables in it.
-    fn term(&mut self, levels: u32) -> Result<(Term, u32), Refusal> {
+    fn term(&mut self, levels: usize) -> Result<(Term, VariableSet), Refusal> {
         let record = self.record(|kind| kind == VARIABLE || kind == APPLIED)?;
         if levels == 0 {
             return refuse(8, record.place);
@@ -324,7 +336,7 @@ impl<'a, K: Keep> Reader<'a, K> {
 
     /// Variables are declared, and numbered by first appearance.
     #[inline(always)]
-    fn variable(&mut self, record: Record) -> Result<(Term, u32), Refusal> {
+    fn variable(&mut self, record: Record) -> Result<(Term, VariableSet), Refusal> {
         let variable = record.body[0];
         if variable >= self.declared || variable > self.seen {
             return refuse(7, record.place);
@@ -334,7 +346,7 @@ impl<'a, K: Keep> Reader<'a, K> {
     }
 
     #[inline(always)]
-    fn applied(&mut self, record: Record, levels: u32) -> Result<(Term, u32), Refusal> {
+    fn applied(&mut self, record: Record, levels: usize) -> Result<(Term, VariableSet), Refusal> {
         let function = record.number();
         record.in_range((function as usize) < self.functions)?;
         let arity = self.function_arity(function);

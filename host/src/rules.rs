@@ -12,6 +12,9 @@ pub struct ClauseNumber(pub u16);
 #[derive(Clone, Copy, Debug, Default, PartialEq, Eq)]
 pub struct TermNumber(pub u32);
 
+/// A set of variables of a clause or query: bit v for variable v.
+pub type VariableSet = u64;
+
 /// A term of the file: a variable, or a function applied.
 #[derive(Clone, Copy, Debug)]
 pub enum Term {
@@ -31,8 +34,8 @@ pub struct Applied {
 #[derive(Debug, Default)]
 pub struct Terms {
     terms: Vec<Term>,
-    /// For each term the set of variables in it: bit v for variable v.
-    variables: Vec<u32>,
+    /// For each term the set of variables in it.
+    variables: Vec<VariableSet>,
 }
 
 impl Terms {
@@ -43,7 +46,7 @@ impl Terms {
 
     /// The set of variables that appear in a term.
     #[inline(always)]
-    pub fn variables(&self, number: TermNumber) -> u32 {
+    pub fn variables(&self, number: TermNumber) -> VariableSet {
         self.variables[number.0 as usize]
     }
 
@@ -63,7 +66,7 @@ impl Terms {
     }
 
     #[inline]
-    pub(crate) fn set(&mut self, number: TermNumber, term: Term, variables: u32) {
+    pub(crate) fn set(&mut self, number: TermNumber, term: Term, variables: VariableSet) {
         self.terms[number.0 as usize] = term;
         self.variables[number.0 as usize] = variables;
     }

@@ -1,9 +1,11 @@
-//! The programs run by hand in document 01, with its own figures.
+//! The programs run by hand in document 01, with its own figures, and those at
+//! the limits of clauses and variables.
 
 mod common;
 
 use common::*;
 use second::assemble::file;
+use second::boundaries::boundaries;
 use second::call::{embedded, line, program, Outcome};
 use second::cases::{programs, Program};
 
@@ -11,10 +13,10 @@ fn a() -> Program {
     programs().remove(0)
 }
 
-#[test]
-fn every_run_of_the_table() {
+/// Carries out all runs of some programs, and says how many they are.
+fn every_run(programs: &[Program]) -> usize {
     let mut runs = 0;
-    for program in programs() {
+    for program in programs {
         for due in &program.runs {
             let (outcome, out) = called(&due.case);
             assert_eq!(
@@ -23,11 +25,22 @@ fn every_run_of_the_table() {
                 "{}",
                 program.name
             );
-            assert_eq!(out, due.bytes(&program), "{}: {}", program.name, due.line);
+            assert_eq!(out, due.bytes(program), "{}: {}", program.name, due.line);
             runs += 1;
         }
     }
-    assert_eq!(runs, 25);
+    runs
+}
+
+#[test]
+fn every_run_of_the_table() {
+    assert_eq!(every_run(&programs()), 25);
+}
+
+#[test]
+fn every_run_at_the_limits_of_clauses_and_variables() {
+    // 12 of many facts, 15 and 9 of many variables, 28 of late ones.
+    assert_eq!(every_run(&boundaries()), 64);
 }
 
 #[test]
@@ -83,9 +96,9 @@ fn the_embedded_form_has_its_own_limits() {
 
 #[test]
 fn the_program_prints_a_line_and_the_bytes() {
-    for case in programs() {
+    for case in programs().iter().chain(&boundaries()) {
         for due in case.runs.iter().filter(|run| run.is_plain()) {
-            let expected = [due.line.as_bytes(), b"\n", &due.bytes(&case)].concat();
+            let expected = [due.line.as_bytes(), b"\n", &due.bytes(case)].concat();
             assert_eq!(program(&case.file), expected);
         }
     }

@@ -1,10 +1,15 @@
 //! The generator: the same case for the same seed, and every end and refusal
-//! often enough.
+//! and large rule sets often enough.
+
+mod common;
 
 use std::collections::HashSet;
 
+use common::*;
 use second::call::{Case, Memory, Outcome};
+use second::damage::{counts, places};
 use second::generate::case;
+use second::record::CLAUSE;
 
 #[test]
 fn a_seed_gives_one_case_and_other_seeds_others() {
@@ -29,6 +34,51 @@ fn every_end_and_every_refusal_comes_often() {
     }
     for number in (1..=9).chain(20..=26) {
         assert!(counts[number] >= 100, "{number}: {counts:?}");
+    }
+}
+
+/// How often a good file has more of something than document 01 allowed.
+#[derive(Debug, Default)]
+struct Larger {
+    /// Its run takes a unit at least.
+    runs: usize,
+    /// What is more stands in an answer.
+    answers: usize,
+}
+
+impl Larger {
+    fn add(&mut self, runs: bool, answers: bool) {
+        self.runs += usize::from(runs);
+        self.answers += usize::from(runs && answers);
+    }
+}
+
+#[test]
+fn larger_rule_sets_than_document_01_allowed_are_run() {
+    let (mut clauses, mut in_clause, mut in_query) = <(Larger, Larger, Larger)>::default();
+    for seed in 0..50_000 {
+        let case = case(seed);
+        let (Outcome::Ended { units: 1.., .. }, out) = called(&case) else {
+            continue;
+        };
+        let counts = counts(&case.file);
+        let mut places = places(&case.file);
+        places.retain(|&place| case.file[place] == CLAUSE);
+        let variables = |step: u16| case.file[places[step as usize] + 3];
+        let steps = step_lists(&out).concat();
+        let late_step = steps.iter().any(|&step| step >= 4_096);
+        let large_step = steps.iter().any(|&step| variables(step) > 32);
+        clauses.add(counts.clauses > 4_096, late_step);
+        in_clause.add(counts.clause_variables > 32, large_step);
+        in_query.add(counts.query_variables > 32, !out.is_empty());
+    }
+    for (larger, runs, answers) in [
+        (clauses, 120, 25),
+        (in_clause, 500, 35),
+        (in_query, 600, 110),
+    ] {
+        assert!(larger.runs >= runs, "{larger:?}");
+        assert!(larger.answers >= answers, "{larger:?}");
     }
 }
 

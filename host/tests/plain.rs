@@ -335,7 +335,7 @@ fn random_settings(random: &mut Random) -> Settings {
 /// Programs whose shared values stay small enough for plain writing.
 fn some_program(random: &mut Random) -> Program {
     let few = random.between(0, 4);
-    let mut chosen = match random.below(13) {
+    let mut chosen = match random.below(14) {
         0 => program(&examples::split(few)),
         1 => program(&examples::naive_reverse(few)),
         2 => program(&examples::permutations(few)),
@@ -347,6 +347,7 @@ fn some_program(random: &mut Random) -> Program {
         10 => program(&examples::shared_by_two(1 + few)),
         8 => wide_and_deep(random, 2 + few * 3),
         9 => random_program(random, LARGE),
+        11 => meeting_variables(random),
         _ => random_program(random, SMALL),
     };
     if random.percent(50) {

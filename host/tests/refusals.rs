@@ -4,26 +4,49 @@
 mod common;
 
 use common::*;
-use second::call::{Limits, Memory, Outcome};
+use second::call::{embedded, Limits, Memory, Outcome};
 use second::cases::bytes;
 use second::damage;
-use second::end::Refusal;
-use second::reading::{check, read};
+use second::end::{is_end, Refusal};
+use second::reading::{check, read, read_into};
 
-/// The refusal of a file in two-digit form; reading and checking agree on it.
+/// What every way into the program says of a file: nothing, or a number and a
+/// place. The embedded form takes no more than 4,000 bytes.
+fn said(file: &[u8]) -> Option<(u32, usize)> {
+    let refusal = check(file).err();
+    let mut rules = read(&damage::length(500)).expect("a good file");
+    assert_eq!(read(file).err(), refusal);
+    assert_eq!(read_into(file, &mut rules).err(), refusal);
+    let said = refusal.map(|Refusal { number, place }| (number, place));
+    let called = match run(file, SETTINGS).0 {
+        Outcome::Refused { number, place } => Some((number, place)),
+        Outcome::Ended { .. } => None,
+    };
+    assert_eq!(called, said);
+    let packed = embedded(file, 1_000, 1_000, &mut [0; 1_000]);
+    let short = file.len() <= 4_000;
+    match if short { said } else { Some((2, 0)) } {
+        Some((number, place)) => assert_eq!(packed, u64::from(number) << 32 | place as u64),
+        None => assert!(is_end(packed >> 32)),
+    }
+    said
+}
+
+/// The refusal of a file in two-digit form.
 fn at(text: &str) -> (u32, usize) {
-    let file = bytes(text);
-    let refusal = read(&file).err();
-    assert_eq!(refusal, check(&file).err());
-    let (number, place) = refused(&file);
-    assert_eq!(refusal, Some(Refusal { number, place }));
-    (number, place)
+    said(&bytes(text)).expect("a refusal")
 }
 
 fn good(text: &str) -> bool {
-    let file = bytes(text);
-    assert_eq!(read(&file).err(), check(&file).err());
-    read(&file).is_ok()
+    said(&bytes(text)).is_none()
+}
+
+/// A maker of files around a limit: one below and at it they are good, and one
+/// above there is this refusal.
+fn limit(file: fn(usize) -> Vec<u8>, limit: usize, above: (u32, usize)) {
+    assert_eq!(said(&file(limit - 1)), None);
+    assert_eq!(said(&file(limit)), None);
+    assert_eq!(said(&file(limit + 1)), Some(above));
 }
 
 /// A call with these limits, a file of this length and so much scratch.
@@ -210,35 +233,43 @@ fn arity_9_is_6() {
 
 #[test]
 fn too_many_records_of_a_kind_are_6() {
-    let is_good = |file: Vec<u8>| read(&file).is_ok();
-    assert!(is_good(damage::functions(1_023)) && is_good(damage::functions(1_024)));
-    assert_eq!(refused(&damage::functions(1_025)), (6, 2 * 1_024));
-    assert!(is_good(damage::predicates(1_023)) && is_good(damage::predicates(1_024)));
-    assert_eq!(refused(&damage::predicates(1_025)), (6, 2 * 1_024));
-    assert!(is_good(damage::clauses(4_095)) && is_good(damage::clauses(4_096)));
-    assert_eq!(refused(&damage::clauses(4_097)), (6, 2 + 5 * 4_096));
+    limit(damage::functions, 1_024, (6, 2 * 1_024));
+    limit(damage::predicates, 1_024, (6, 2 * 1_024));
+    limit(damage::clauses, 8_192, (6, 2 + 5 * 8_192));
 }
 
 #[test]
 fn one_record_too_many_that_is_short_is_4() {
     let functions = damage::functions(1_025);
-    assert_eq!(refused(&functions[..2 * 1_024 + 1]), (4, 2 * 1_024));
-    let clauses = damage::clauses(4_097);
-    assert_eq!(refused(&clauses[..2 + 5 * 4_096 + 4]), (4, 2 + 5 * 4_096));
+    assert_eq!(said(&functions[..2 * 1_024 + 1]), Some((4, 2 * 1_024)));
+    let clauses = damage::clauses(8_193);
+    let last = 2 + 5 * 8_192;
+    assert_eq!(said(&clauses[..last + 4]), Some((4, last)));
+    assert_eq!(said(&clauses[..last + 5]), Some((6, last)));
 }
 
 #[test]
-fn counts_of_variables_and_goals_end_at_32_and_16() {
-    let is_good = |file: Vec<u8>| read(&file).is_ok();
-    assert!(is_good(damage::variables(31)) && is_good(damage::variables(32)));
-    assert_eq!(refused(&damage::variables(33)), (6, 2));
-    assert!(is_good(damage::goals(15)) && is_good(damage::goals(16)));
-    assert_eq!(refused(&damage::goals(17)), (6, 0));
-    assert_eq!(at("02 00 03 00 00 21 00"), (6, 2));
+fn counts_of_variables_and_goals_end_at_64_and_16() {
+    // A predicate and a fact of eight variables stand before the query; a
+    // function and two predicates before the clause.
+    limit(damage::variables, 64, (6, 2 + 5 + 8 * 2));
+    limit(damage::clause_variables, 64, (6, 3 * 2));
+    limit(damage::goals, 16, (6, 0));
+    assert_eq!(at("02 00 03 00 00 41 00"), (6, 2));
+    assert_eq!(at("02 00 03 00 00 40 00"), (7, 2));
+    assert_eq!(at("08 41 00"), (6, 0));
+    assert_eq!(at("08 40 00"), (7, 0));
     assert_eq!(at("02 00 03 00 00 00 11"), (6, 2));
     assert!(good(
         "02 00 03 00 00 00 10 07 07 07 07 07 07 07 07 07 07 07 07 07 07 07 07 08 00 00 09"
     ));
+}
+
+#[test]
+fn files_one_beyond_the_limits_of_document_01_are_good() {
+    assert_eq!(said(&damage::clauses(4_097)), None);
+    assert_eq!(said(&damage::variables(33)), None);
+    assert_eq!(said(&damage::clause_variables(33)), None);
 }
 
 #[test]
@@ -303,11 +334,9 @@ fn variables_are_counted_afresh_in_each_clause() {
 
 #[test]
 fn a_term_at_level_33_is_8() {
-    assert!(read(&damage::levels(31)).is_ok());
-    assert!(read(&damage::levels(32)).is_ok());
     // Two functions, a predicate, query and goal take 12 bytes; each level 3.
-    assert_eq!(refused(&damage::levels(33)), (8, 12 + 3 * 32));
-    assert_eq!(refused(&damage::levels(40)), (8, 12 + 3 * 32));
+    limit(damage::levels, 32, (8, 12 + 3 * 32));
+    assert_eq!(said(&damage::levels(40)), Some((8, 12 + 3 * 32)));
 }
 
 #[test]
