@@ -1,8 +1,8 @@
 //! The library beside the second program.
 //!
 //! The library is proved code behind C functions; the second program is
-//! ordinary Rust, written from document 01 alone. Here both get the same files
-//! and calls, and must say the same:
+//! ordinary Rust, written from the documents alone. Here both get the same
+//! files and calls, and must say the same:
 //!
 //! - `library`: the library's functions, behind safe ones;
 //! - `files`: files from seeds, and long files of several kinds;

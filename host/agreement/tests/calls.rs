@@ -7,12 +7,12 @@ use agreement::calls::{compare, from_seed, thresholds, Both, Call, Tally};
 use agreement::library::{call, run};
 use second::assemble::file;
 use second::call::{Case, Limits, Outcome};
-use second::damage::length;
+use second::damage::{counts, length};
 use second::end::is_end;
 use second::examples::{naive_reverse, shared, shared_answer, shared_by_two, shared_inside_itself};
 use second::generate::good_program;
 use second::random::Random;
-use second::random_programs::wide_and_deep;
+use second::random_programs::{large_table, wide_and_deep};
 
 const APPEND: &[u8] = include_bytes!("../../../examples/append.rules");
 
@@ -112,10 +112,24 @@ fn naive_reverse_of_thirty() {
     assert_eq!((end, answers, out), (24, 0, vec![]));
 }
 
+/// Counts the files with more clauses, variables of a clause and variables of
+/// the query than document 01 allowed.
+fn count_larger(larger: &mut [usize; 3], file: &[u8]) {
+    let counts = counts(file);
+    larger[0] += usize::from(counts.clauses > 4_096);
+    larger[1] += usize::from(counts.clause_variables > 32);
+    larger[2] += usize::from(counts.query_variables > 32);
+}
+
 #[test]
 fn twenty_thousand_calls() {
-    let tally = compare(from_seed(0).take(20_000)).expect("no difference");
+    let mut larger = [0; 3];
+    let calls = from_seed(0).take(20_000);
+    let calls = calls.inspect(|(_, call)| count_larger(&mut larger, &call.case.file));
+    let tally = compare(calls).expect("no difference");
     assert_eq!(tally.calls(), 20_000);
+    assert!(larger[0] >= 50, "{larger:?}");
+    assert!(larger[1] >= 300 && larger[2] >= 300, "{larger:?}");
     for number in (1..=9).chain(20..=26) {
         assert!(tally.by_number[number] >= 20, "{number}: {tally:?}");
     }
@@ -126,14 +140,18 @@ fn good_files_at_all_thresholds() {
     let mut random = Random::new(20_000);
     let mut both = Both::default();
     let mut tally = Tally::default();
+    let mut larger = [0; 3];
     for _ in 0..600 {
-        let file = match random.percent(20) {
-            true => wide_and_deep(&mut random, 20),
-            false => good_program(&mut random),
+        let file = match random.below(100) {
+            0..=19 => wide_and_deep(&mut random, 20),
+            20..=21 => large_table(&mut random, 8_192),
+            _ => good_program(&mut random),
         };
+        let file = file.bytes();
+        count_larger(&mut larger, &file);
         let budget = *random.one_of(&[50, 500, 2_000]);
         let wanted = *random.one_of(&[1, 3, 1_000]);
-        for call in thresholds(&file.bytes(), budget, wanted) {
+        for call in thresholds(&file, budget, wanted) {
             let agreed = both.agreed(&call);
             tally.add(&agreed.unwrap_or_else(|difference| panic!("{difference}: {call:?}")));
         }
@@ -141,6 +159,7 @@ fn good_files_at_all_thresholds() {
     for number in 20..=26 {
         assert!(tally.by_number[number] >= 100, "{number}: {tally:?}");
     }
+    assert!(larger.iter().all(|&count| count >= 5), "{larger:?}");
 }
 
 #[test]

@@ -1,4 +1,4 @@
-/* The header, as a C99 and as a C++ program: its constants are document 01's numbers, its functions take a packed number apart, walk through case
+/* The header, as a C99 and as a C++ program: its constants are the documents' numbers, its functions take a packed number apart, walk through case
  * A's answers and put case A's query into its rules, and the library's functions take each buffer as NULL and each length of a result. */
 #include "pegplanet.h"
 #include "pegplanet.h"
@@ -36,9 +36,9 @@ static void constants(void) {
     same("longest file", PEGPLANET_LIMIT_FILE, 60000);
     same("most functions", PEGPLANET_LIMIT_FUNCTIONS, 1024);
     same("most predicates", PEGPLANET_LIMIT_PREDICATES, 1024);
-    same("most clauses", PEGPLANET_LIMIT_CLAUSES, 4096);
+    same("most clauses", PEGPLANET_LIMIT_CLAUSES, 8192);
     same("most arguments", PEGPLANET_LIMIT_ARITY, 8);
-    same("most variables", PEGPLANET_LIMIT_VARIABLES, 32);
+    same("most variables", PEGPLANET_LIMIT_VARIABLES, 64);
     same("most goals", PEGPLANET_LIMIT_GOALS, 16);
     same("most levels", PEGPLANET_LIMIT_LEVELS, 32);
     same("most cells", PEGPLANET_LIMIT_CELLS, 60000);

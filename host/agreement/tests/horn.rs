@@ -8,6 +8,7 @@ use std::process::{Command, Output};
 use std::sync::OnceLock;
 
 use common::*;
+use second::damage::{clause_variables, clauses, variables};
 
 fn read(name: &str) -> String {
     std::fs::read_to_string(path("examples/horn").join(name)).expect(name)
@@ -160,8 +161,20 @@ fn the_assembler_says_where_what_stands_and_what_is_due() {
     after("p(a(a)).", &format!("4:3: a {}", count("1 argument", 0)));
 }
 
+/// So many lines or goals, each by its number, with a mark between them.
+fn joined(count: usize, mark: &str, each: impl Fn(usize) -> String) -> String {
+    (0..count).map(each).collect::<Vec<_>>().join(mark)
+}
+
+/// A goal of eight variables, or the head of a clause: the first eight are in
+/// row 0.
+fn row(predicate: &str, row: usize) -> String {
+    let variables = joined(8, ",", |place| format!("X{}", 8 * row + place));
+    format!("{predicate}({variables})")
+}
+
 #[test]
-fn the_assembler_knows_the_limits_of_document_01() {
+fn the_assembler_knows_the_limits() {
     /// A text with something too much, and the part of it that is.
     fn wrong(text: &str, too_much: &str, said: &str) {
         let ended = run(&mut Command::new(assembler()), text.as_bytes());
@@ -172,27 +185,38 @@ fn the_assembler_knows_the_limits_of_document_01() {
         assert_eq!(String::from_utf8_lossy(&ended.stderr), due);
         assert_eq!((ended.stdout.len(), ended.status.code()), (0, Some(1)));
     }
-    let lines = |count: usize, line: &dyn Fn(usize) -> String| {
-        let lines: Vec<_> = (0..count).map(line).collect();
-        lines.join("\n")
-    };
-    let functions = lines(1_025, &|number| format!("function f{number}/0."));
+    let functions = joined(1_025, "\n", |number| format!("function f{number}/0."));
     wrong(&functions, "f1024", "1024 functions");
-    let predicates = lines(1_025, &|number| format!("predicate p{number}/0."));
+    let predicates = joined(1_025, "\n", |number| format!("predicate p{number}/0."));
     wrong(&predicates, "p1024", "1024 predicates");
-    let clauses = format!("predicate p/0.\n{}r.", "p. ".repeat(4_096));
-    wrong(&clauses, "r.", "4096 clauses");
+    let clauses = format!("predicate p/0.\n{}r.", "p. ".repeat(8_192));
+    wrong(&clauses, "r.", "8192 clauses");
     let declared = "function a/0. function f/1. predicate p/1. predicate q/8.\n";
-    let goals = lines(17, &|number| format!("p(X{number})")).replace('\n', ", ");
+    let goals = joined(17, ", ", |number| format!("p(X{number})"));
     wrong(&format!("{declared}?- {goals}."), "p(X16)", "16 goals");
-    let goal = |number: usize| {
-        let variables = lines(8, &|place| format!("X{}", 8 * number + place));
-        format!("q({})", variables.replace('\n', ","))
-    };
-    let goals = lines(5, &goal).replace('\n', ", ");
-    wrong(&format!("{declared}?- {goals}."), "X32", "32 variables");
+    let goals = joined(9, ", ", |number| row("q", number));
+    let variables = "64 variables";
+    wrong(&format!("{declared}?- {goals}."), "X64", variables);
+    wrong(&format!("{declared}p(X0) :- {goals}."), "X64", variables);
     let term = format!("{}a{}", "f(".repeat(32), ")".repeat(32));
     wrong(&format!("{declared}?- p({term})."), "a)", "32 levels");
+}
+
+#[test]
+fn the_assembler_takes_as_many_clauses_and_variables_as_the_machine() {
+    let text = format!("predicate p/0.\n{}?- p.", "p.\n".repeat(8_192));
+    assert_eq!(assembled(&[], &text), clauses(8_192));
+    let goals = joined(8, ", ", |number| row("p", number));
+    let text = format!("predicate p/8. {}. ?- {goals}.", row("p", 0));
+    assert_eq!(assembled(&[], &text), variables(64));
+    let body = joined(7, ", ", |number| row("p", number + 1));
+    let constants = "(a,a,a,a,a,a,a,a)";
+    let text = format!(
+        "function a/0. predicate q/8. predicate p/8.
+         {} :- {body}. p{constants}. ?- q{constants}.",
+        row("q", 0)
+    );
+    assert_eq!(assembled(&[], &text), clause_variables(64));
 }
 
 #[test]

@@ -5,7 +5,7 @@ mod common;
 
 use agreement::files::from_seed;
 use common::*;
-use second::damage::levels;
+use second::damage::{clause_variables, levels, variables};
 
 /// A function with the stack that it took, and what the header states.
 type Taken = (String, usize, usize);
@@ -20,8 +20,10 @@ fn line(line: &str) -> Taken {
 fn the_stack_that_the_header_states_is_enough() {
     let program = compiled(C99, &path("host/agreement/tests/stack.c"), "stack");
     let generated = from_seed(0).take(100).map(|(_, file)| file);
+    let at_limits = [levels(32), variables(64), clause_variables(64)];
+    let files = at_limits.into_iter().chain(generated);
     let mut most: Vec<Taken> = Vec::new();
-    for file in [APPEND.to_vec(), levels(32)].into_iter().chain(generated) {
+    for file in files.chain([APPEND.to_vec()]) {
         let (text, status) = said(&program, &file);
         // A thread whose stack is too small ends the process.
         assert_eq!(status, Some(0));

@@ -6,7 +6,7 @@ use std::time::Instant;
 
 use agreement::calls::{told, Both, Call};
 use agreement::library;
-use second::assemble::file;
+use second::assemble::{file, program};
 use second::call::{Case, Limits, Memory, Outcome};
 use second::cases::programs;
 use second::examples::*;
@@ -69,12 +69,25 @@ fn embedded() -> f64 {
     rounds.fold(f64::INFINITY, f64::min)
 }
 
-/// Walks in a graph of 4,094 edges: as many clauses as a file may have.
+/// Walks in a graph of 4,094 edges, by two rules.
 fn large_graph() -> String {
     let edges: Vec<_> = (0..4_094)
         .map(|i| (i % 1_000, (i + i / 1_000 + 1) % 1_000))
         .collect();
-    walks(&edges)
+    with_clauses(4_096, walks(&edges))
+}
+
+/// Two tables of 2,730 facts each and as many facts beside them, joined by two
+/// rules: as many clauses as a file may have.
+fn large_tables() -> String {
+    let rows: Vec<_> = (0..2_730).map(|i| (i % 1_000, 7 * i % 1_000)).collect();
+    with_clauses(8_192, joined(&rows))
+}
+
+/// A text that has exactly so many clauses.
+fn with_clauses(count: usize, text: String) -> String {
+    assert_eq!(program(&text).clauses.len(), count);
+    text
 }
 
 fn main() {
@@ -88,6 +101,7 @@ fn main() {
         ("naive reverse of 60", long_reverse(6), 1, MEDIUM),
         ("naive reverse of 120", long_reverse(12), 1, LARGE),
         ("4,096 clauses", large_graph(), 80, SMALL),
+        ("8,192 clauses", large_tables(), 80, SMALL),
         ("split 12 in three", split_in_three(12), 13 * 14 / 2, SMALL),
         ("permutations of 5", permutations(5), 120, SMALL),
         ("2 to the power of 7", powers_of_two(7), 1, SMALL),
