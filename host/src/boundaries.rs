@@ -2,7 +2,7 @@
 //! raises, and what comes of them, worked out by hand from document 01.
 
 use crate::assemble::file;
-use crate::cases::{Program, Run};
+use crate::cases::{answer, Program, Run};
 use crate::damage::{clause_variables, clauses, variables};
 
 /// All of them: files that document 01 refused, files one below the limits and
@@ -35,20 +35,6 @@ fn program(
         file,
         answers,
     }
-}
-
-/// The bytes of an answer: its free variables, its values and its steps.
-fn answer(free: u16, values: &[u8], steps: &[u16]) -> Vec<u8> {
-    let mut bytes = vec![0x0A];
-    bytes.extend(free.to_be_bytes());
-    bytes.extend((steps.len() as u16).to_be_bytes());
-    bytes.extend(values);
-    for step in steps {
-        bytes.push(0x0C);
-        bytes.extend(step.to_be_bytes());
-    }
-    bytes.push(0x0D);
-    bytes
 }
 
 /// A free variable as a value.

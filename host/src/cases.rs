@@ -75,6 +75,21 @@ pub fn bytes(text: &str) -> Vec<u8> {
     text.split_whitespace().map(byte).collect()
 }
 
+/// The bytes of an answer as document 01 writes them: with so many free
+/// variables, these values and these steps.
+pub fn answer(free: u16, values: &[u8], steps: &[u16]) -> Vec<u8> {
+    let mut bytes = vec![0x0A];
+    bytes.extend(free.to_be_bytes());
+    bytes.extend((steps.len() as u16).to_be_bytes());
+    bytes.extend(values);
+    for step in steps {
+        bytes.push(0x0C);
+        bytes.extend(step.to_be_bytes());
+    }
+    bytes.push(0x0D);
+    bytes
+}
+
 /// All programs of the table.
 pub fn programs() -> Vec<Program> {
     let mut programs: Vec<Program> = Vec::new();

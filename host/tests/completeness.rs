@@ -10,6 +10,7 @@ mod common;
 use common::*;
 use second::assemble::{variables, Program, Tree, TreeGoal};
 use second::call::{Limits, Outcome};
+use second::cases::answer;
 use second::random::Random;
 use second::random_programs::{add_cuts, random_program, Size, SMALL};
 
@@ -131,7 +132,7 @@ impl Lists<'_> {
     fn decide(&mut self, steps: &[u16], equations: &[Equation]) {
         if let Some(solution) = solved(equations.to_vec()) {
             let steps = steps.to_vec();
-            let bytes = answer(&self.program.query, &steps, &solution);
+            let bytes = answered(&self.program.query, &steps, &solution);
             self.proofs.push(Proof { steps, bytes });
         }
     }
@@ -147,8 +148,8 @@ fn renamed_goal(goal: &TreeGoal, offset: usize) -> TreeGoal {
     }
 }
 
-/// The bytes of an answer, as document 01 writes them.
-fn answer(query: &[TreeGoal], steps: &[u16], solution: &Substitution) -> Vec<u8> {
+/// The bytes of the answer to a query.
+fn answered(query: &[TreeGoal], steps: &[u16], solution: &Substitution) -> Vec<u8> {
     let mut free = Vec::new();
     let mut values = Vec::new();
     for variable in variables(&[], query) {
@@ -156,16 +157,7 @@ fn answer(query: &[TreeGoal], steps: &[u16], solution: &Substitution) -> Vec<u8>
         let value = value.map_or(Tree::Variable(variable), |(_, tree)| tree.clone());
         write(&value, &mut free, &mut values);
     }
-    let mut bytes = vec![0x0A];
-    bytes.extend((free.len() as u16).to_be_bytes());
-    bytes.extend((steps.len() as u16).to_be_bytes());
-    bytes.extend(values);
-    for step in steps {
-        bytes.push(0x0C);
-        bytes.extend(step.to_be_bytes());
-    }
-    bytes.push(0x0D);
-    bytes
+    answer(free.len() as u16, &values, steps)
 }
 
 fn write(value: &Tree, free: &mut Vec<usize>, bytes: &mut Vec<u8>) {
