@@ -9,10 +9,11 @@ use lib.ListN.{length}
 use Rattle.meaning.specs.Terms.{Term}
 use Rattle.meaning.specs.Rules.{Rules}
 use Rattle.meaning.specs.Kinds.{RuleLimits, todays-limits}
+use Rattle.meaning.specs.Editions.{Edition, todays}
 use Rattle.meaning.specs.Reading.{read, parse-within}
 use Rattle.meaning.specs.Answers.{Answer, output}
 use Rattle.meaning.specs.Moves.{Limits}
-use Rattle.meaning.specs.Call.{Result, end, result-within, result, needed, output-after, scratch-after}
+use Rattle.meaning.specs.Call.{Result, end, result-by, result, needed, output-after, scratch-after}
 use Rattle.demands.specs.Proofs.{Each, Some, Values, Allows, IsProof, Matches, Before, WellFormed, Uncut}
 
 -- the file is good by these limits of a rule set, and says these rules
@@ -74,15 +75,15 @@ abbrev pub ThirdDemandWithCut : Type 0
 ThirdDemandWithCut = (R : Rules) (e answers units : ℕ) (bytes : List ℕ) → Ends R e answers units bytes
     → (listed : List Answer) × (bytes ≡ output listed) × (answers ≡ length listed) × Correct R listed
 
--- What a call leaves behind, by these limits of a rule set: its result r, the scratch and the output after it
-pub record LeavesWithin (most : RuleLimits) (file : List ℕ) (L : Limits) (budget wanted : ℕ) (scratch out : List ℕ) (r : Result) (scratch-then out-then : List ℕ) : Type 0 where
-  pub result-is : r ≡ result-within most file L budget wanted (length scratch) (length out)
+-- What a call leaves behind, by the rules of an edition: its result r, the scratch and the output after it
+pub record LeavesBy (E : Edition) (file : List ℕ) (L : Limits) (budget wanted : ℕ) (scratch out : List ℕ) (r : Result) (scratch-then out-then : List ℕ) : Type 0 where
+  pub result-is : r ≡ result-by E file L budget wanted (length scratch) (length out)
   pub scratch-is : scratch-then ≡ scratch-after r (needed (length file) L) scratch
   pub output-is : out-then ≡ output-after r out
 
--- by today's
+-- by today's rules
 abbrev pub Leaves : List ℕ → Limits → ℕ → ℕ → List ℕ → List ℕ → Result → List ℕ → List ℕ → Type 0
-Leaves = LeavesWithin todays-limits
+Leaves = LeavesBy todays
 
 -- "For every input, refused or not, one possible result and one possible content of output and scratch"
 pub record OneOutcome (file : List ℕ) (L : Limits) (budget wanted : ℕ) (scratch out : List ℕ) : Type 0 where

@@ -1,17 +1,18 @@
--- 2026-01, larger rule sets: what a file that was read by the earlier limits comes to by today's. A reader needs document 01's definitions,
--- and no proof: that each statement holds is in `LargerLaws`.
+-- 2026-01, larger rule sets: what a file that was read by the earlier limits comes to by today's, all other rules being those of any one
+-- edition. A reader needs document 01's definitions, and no proof: that each statement holds is in `LargerLaws`.
 -- Assumes nothing.
 use Prim.Native.Nat.{ℕ, _+_, _≤_, _<_}
 use mathlib.Core.Path.{_≡_}
 use mathlib.Core.List.{List, [], _∷_, _++_}
 use lib.ListN.{length, take}
-use Rattle.meaning.specs.Kinds.{a-clause, a-query, the-end, RuleLimits, earlier-limits}
+use Rattle.meaning.specs.Kinds.{a-clause, a-query, the-end, RuleLimits, earlier-limits, todays-limits}
+use Rattle.meaning.specs.Editions.{Edition, within}
 use Rattle.meaning.specs.Rules.{Rules}
 use Rattle.meaning.specs.Reading.{refused, byte, parse-within, parse}
 use Rattle.meaning.specs.Moves.{Limits}
-use Rattle.meaning.specs.Call.{Result, refusal, result-within, result}
-use Rattle.meaning.specs.Embedded.{embedded-within, embedded}
-use Rattle.demands.specs.Demands.{SaysWithin, Says, LeavesWithin, Leaves}
+use Rattle.meaning.specs.Call.{Result, refusal, result-by}
+use Rattle.meaning.specs.Embedded.{embedded-by}
+use Rattle.demands.specs.Demands.{SaysWithin, Says, LeavesBy}
 
 -- "No answer to a file accepted before may change": it is accepted, and says the same rules
 abbrev pub AcceptedBefore : Type 0
@@ -19,11 +20,12 @@ AcceptedBefore = (file : List ℕ) (R : Rules) → SaysWithin earlier-limits fil
 
 -- so every call with it leaves the same result, scratch and output, and the embedded form has the same result
 abbrev pub SameCalls : Type 0
-SameCalls = (file : List ℕ) (R : Rules) → SaysWithin earlier-limits file R → (L : Limits) (budget wanted : ℕ) (scratch out : List ℕ) (r : Result) (scratch-then out-then : List ℕ)
-    → LeavesWithin earlier-limits file L budget wanted scratch out r scratch-then out-then → Leaves file L budget wanted scratch out r scratch-then out-then
+SameCalls = (E : Edition) (file : List ℕ) (R : Rules) → SaysWithin earlier-limits file R → (L : Limits) (budget wanted : ℕ) (scratch out : List ℕ) (r : Result) (scratch-then out-then : List ℕ)
+    → LeavesBy (within earlier-limits E) file L budget wanted scratch out r scratch-then out-then → LeavesBy (within todays-limits E) file L budget wanted scratch out r scratch-then out-then
 
 abbrev pub SameEmbedded : Type 0
-SameEmbedded = (file : List ℕ) (R : Rules) → SaysWithin earlier-limits file R → (budget wanted room : ℕ) → embedded file budget wanted room ≡ embedded-within earlier-limits file budget wanted room
+SameEmbedded = (E : Edition) (file : List ℕ) (R : Rules) → SaysWithin earlier-limits file R → (budget wanted room : ℕ)
+    → embedded-by (within todays-limits E) file budget wanted room ≡ embedded-by (within earlier-limits E) file budget wanted room
 
 -- the bytes before the place p, closed by a query of nothing and the end
 abbrev pub closing : List ℕ
@@ -44,8 +46,8 @@ RefusedBefore = (file : List ℕ) (n p : ℕ) → parse-within file earlier-limi
 
 -- and so is every call with it
 abbrev pub SameRefusals : Type 0
-SameRefusals = (file : List ℕ) (L : Limits) (budget wanted scratch room n p : ℕ) → result-within earlier-limits file L budget wanted scratch room ≡ refusal n p → ¬ ((n ≡ 6) × TooLarge earlier-limits file p)
-    → result file L budget wanted scratch room ≡ refusal n p
+SameRefusals = (E : Edition) (file : List ℕ) (L : Limits) (budget wanted scratch room n p : ℕ) → result-by (within earlier-limits E) file L budget wanted scratch room ≡ refusal n p
+    → ¬ ((n ≡ 6) × TooLarge earlier-limits file p) → result-by (within todays-limits E) file L budget wanted scratch room ≡ refusal n p
 
 -- A file that was refused with one of them is good, or is refused at the same place or a later one
 abbrev pub RefusedLater : Type 0

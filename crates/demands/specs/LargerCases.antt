@@ -6,7 +6,8 @@ use mathlib.Core.Path.{_≡_, refl}
 use mathlib.Core.List.{List, [], _∷_, _++_, map}
 use Rattle.meaning.specs.Terms.{[]ₜ}
 use Rattle.meaning.specs.Kinds.{RuleLimits, earlier-limits, todays-limits}
-use Rattle.meaning.specs.Call.{Result, refusal, end, result-within}
+use Rattle.meaning.specs.Editions.{todays, within}
+use Rattle.meaning.specs.Call.{Result, refusal, end, result-by}
 use Rattle.meaning.specs.Reading.{parse-within, parse}
 use Rattle.demands.specs.Computes.{computes}
 use Rattle.demands.specs.Cases.{append}
@@ -43,7 +44,7 @@ pub record Case : Type 0 where
   pub gives : Result
 
 abbrev given : Case → Result
-given c = result-within (c .most) (c .file) (record { cells = 1_000; steps = 1_000; work = 1_000 }) 1_000 1_000 100_000 1_000
+given c = result-by (within (c .most) todays) (c .file) (record { cells = 1_000; steps = 1_000; work = 1_000 }) 1_000 1_000 100_000 1_000
 
 -- one answer, of nothing
 abbrev one-answer : Result

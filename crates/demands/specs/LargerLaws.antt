@@ -11,12 +11,13 @@ use lib.Seq.{length-take-le, getD-take, getD-append-add}
 use borrow.Author.Tests.{ltb-true, ltb-false, leb-true, leb-false, eqb-true, not-false, le-leb, lt-ltb, eq-eqb}
 use Rattle.meaning.specs.If.{if_then_else_}
 use Rattle.meaning.specs.Kinds.{body-lengths, body-length, a-function, a-predicate, a-clause, a-query, the-end, arity-limit, function-limit, predicate-limit, goal-limit, RuleLimits, earlier-limits, todays-limits}
+use Rattle.meaning.specs.Editions.{Edition, within}
 use Rattle.meaning.specs.Rules.{Clause, Rules}
 use Rattle.meaning.specs.Reading.{Read, refused, read, Reader, after, _>>=_, _>>_, give, need, none-seen, all-seen, goals, item-due, end-due}
 use Rattle.meaning.specs.Reading.{byte, two-bytes, next, clause, query, no-more, items, parse-within, parse}
 use Rattle.meaning.specs.Moves.{Limits}
-use Rattle.meaning.specs.Call.{Result, refusal, ending, run-read, result-within, result}
-use Rattle.meaning.specs.Embedded.{embedded-limits, embedded-scratch, room-limit, embedded-in, embedded-within}
+use Rattle.meaning.specs.Call.{Result, refusal, ending, run-read, result-by}
+use Rattle.meaning.specs.Embedded.{embedded-limits, embedded-scratch, room-limit, embedded-in, embedded-by}
 use Rattle.laws.specs.IfLaws.{if-by, if-both}
 use Rattle.laws.specs.Due.{query-left}
 use Rattle.laws.specs.Onward.{Onward, onward-read, clause-on}
@@ -342,21 +343,22 @@ refused-before file = larger-refused file earlier-limits todays-limits (omega ar
 pub refused-later : RefusedLater
 refused-later file = larger-later file earlier-limits todays-limits (omega arith) (omega arith)
 
-pub same-result : (file : List ℕ) (R : Rules) → SaysWithin earlier-limits file R → (L : Limits) (budget wanted scratch room : ℕ) → result-within earlier-limits file L budget wanted scratch room ≡ result file L budget wanted scratch room
-unfolding result-within
-same-result file R (s, e, q) L budget wanted scratch room = rw (q, still-good file R s e q) refl
+pub same-result : (E : Edition) (file : List ℕ) (R : Rules) → SaysWithin earlier-limits file R → (L : Limits) (budget wanted scratch room : ℕ)
+    → result-by (within earlier-limits E) file L budget wanted scratch room ≡ result-by (within todays-limits E) file L budget wanted scratch room
+unfolding result-by run-read
+same-result E file R (s, e, q) L budget wanted scratch room = rw (q, still-good file R s e q) refl
 
 pub same-calls : SameCalls
-same-calls file R says L budget wanted scratch out r scratch-then out-then l =
-    record { result-is = l .result-is ∙ same-result file R says L budget wanted (length scratch) (length out); scratch-is = l .scratch-is; output-is = l .output-is }
+same-calls E file R says L budget wanted scratch out r scratch-then out-then l =
+    record { result-is = l .result-is ∙ same-result E file R says L budget wanted (length scratch) (length out); scratch-is = l .scratch-is; output-is = l .output-is }
 
 pub same-refusals : SameRefusals
-unfolding result-within run-read ending
-same-refusals file L budget wanted scratch room n p e k =
+unfolding result-by run-read ending
+same-refusals E file L budget wanted scratch room n p e k =
     let P : Result → Result → Type 0 = λ x y. x ≡ refusal n p → y ≡ refusal n p in
     if-both P _ (λ u q. q) (λ u. if-both P _ (λ u q. q) λ u. if-both P _ (λ u q. q) λ u. go (parse-within file earlier-limits) refl) e
   where
-    go : (r : Read Rules) → parse-within file earlier-limits ≡ r → run-read r L budget wanted room ≡ refusal n p → run-read (parse file) L budget wanted room ≡ refusal n p
+    go : (r : Read Rules) → parse-within file earlier-limits ≡ r → run-read (within earlier-limits E) r L budget wanted room ≡ refusal n p → run-read (within todays-limits E) (parse file) L budget wanted room ≡ refusal n p
     go (refused m q) f h =
         let number : m ≡ n = cc in
         let place : q ≡ p = cc in
@@ -364,5 +366,5 @@ same-refusals file L budget wanted scratch room n p e k =
     go (read R s at) f h = let z : _≡_ {A = ℕ} 0 1 = cc in absurd (omega arith)
 
 pub same-embedded : SameEmbedded
-unfolding embedded-within embedded-in
-same-embedded file R says budget wanted room = rw (same-result file R says embedded-limits budget wanted embedded-scratch (min room room-limit)) refl
+unfolding embedded-by embedded-in
+same-embedded E file R says budget wanted room = rw (same-result E file R says embedded-limits budget wanted embedded-scratch (min room room-limit)) refl

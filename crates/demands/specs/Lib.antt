@@ -20,4 +20,7 @@ pub mod Searches
 pub mod Theorems
 pub mod LargerLaws
 pub mod LargerCases
+pub mod QueryCut
+pub mod QueryCutLaws
+pub mod QueryCutCases
 pub mod Append

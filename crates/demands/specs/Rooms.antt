@@ -8,12 +8,13 @@ use lib.Dec.{ltb}
 use lib.ListN.{length, length-append}
 use borrow.Author.Tests.{ltb-false}
 use Rattle.meaning.specs.Terms.{Term, var, app}
+use Rattle.meaning.specs.Editions.{todays}
 use Rattle.meaning.specs.Rules.{Rules}
 use Rattle.meaning.specs.Reading.{Read, refused, read, parse}
 use Rattle.meaning.specs.Answers.{Answer, Piece, piece, pieces, bytes-of, bytes, output, Fit, fits, stops, fitting}
-use Rattle.meaning.specs.Moves.{Limits, Open, goal, cut-to, cut-idle, Derivation, Numbered, Choice, choice, Pair, Move, trying, taking, cutting, Done, State, ended, due}
-use Rattle.meaning.specs.Moves.{nothing, spend, list, pairs, keep, fail, answer, answered, put-out, answering, take-goal, go-on, matching, binding, compared, take-pair, try-head, move, start, run}
-use Rattle.meaning.specs.Call.{Result, refusal, end, ending, run-read, result-within, result}
+use Rattle.meaning.specs.Moves.{Limits, Open, goal, cut-to, Derivation, Numbered, Choice, choice, Pair, Move, trying, taking, cutting, Done, State, ended, due}
+use Rattle.meaning.specs.Moves.{nothing, spend, list, pairs, keep, fail, answer, answered, put-out, answering, take-goal, go-on, matching, binding, compared, take-pair, try-head, move, start-keeping, start, run}
+use Rattle.meaning.specs.Call.{Result, refusal, end, ending, run-read, result-by, result}
 use Rattle.laws.specs.IfLaws.{if-by}
 use Rattle.demands.specs.Faults.{refused-inside}
 use Rattle.demands.specs.Stops.{run-range}
@@ -77,7 +78,6 @@ module _ (R : Rules) (L : Limits) (wanted room : ℕ) where
   take-goal-fits [] n cs d h = answering-fits n cs d h
   take-goal-fits (goal g ∷ gs) n cs d h = fail-fits _ d h
   take-goal-fits (cut-to k ∷ gs) n cs d h = h
-  take-goal-fits (cut-idle ∷ gs) n cs d h = h
 
   go-on-fits : (n : Derivation) (cs : List Choice) (d : Done) → Roomy d → Fits (go-on R L wanted room n cs d)
   unfolding go-on
@@ -117,7 +117,7 @@ module _ (R : Rules) (L : Limits) (wanted room : ℕ) where
   run-fits (suc left) (due m d) h = run-fits left (move R L wanted room m (spend d)) (move-fits m (spend d) h)
 
   start-fits : Fits (start R L wanted room)
-  unfolding start nothing output
+  unfolding start-keeping nothing output
   start-fits = if-by Fits _ (λ e. omega arith) (λ e. if-by Fits _ (λ f. omega arith) (λ f. go-on-fits _ [] _ (omega arith)))
 
   pub run-roomy : (budget : ℕ) → length (output (run R L wanted room budget (start R L wanted room) .1 .listed)) ≤ room
@@ -129,13 +129,13 @@ abbrev pub Small : List ℕ → ℕ → Result → Type 0
 Small file room (refusal n p) = (1 ≤ n) × (n ≤ 9) × (p ≤ length file)
 Small file room (end e n u b) = (20 ≤ e) × (e ≤ 26) × (length b ≤ room)
 
-read-small : (file : List ℕ) (L : Limits) (budget wanted room : ℕ) (r : Read Rules) → parse file ≡ r → Small file room (run-read r L budget wanted room)
+read-small : (file : List ℕ) (L : Limits) (budget wanted room : ℕ) (r : Read Rules) → parse file ≡ r → Small file room (run-read todays r L budget wanted room)
 unfolding run-read ending
 read-small file L budget wanted room (refused n p) e = let f = refused-inside file n p e in let a = f .least in (omega arith, f .most, f .place .1)
 read-small file L budget wanted room (read R seen at) e = let (a, b) = run-range R L wanted room budget _ _ refl in (a, b, run-roomy R L wanted room budget)
 
 pub result-small : (file : List ℕ) (L : Limits) (budget wanted scratch room : ℕ) → Small file room (result file L budget wanted scratch room)
-unfolding result-within
+unfolding result-by
 result-small file L budget wanted scratch room =
     let G : Result → Type 0 = Small file room in
     if-by G _ (λ e. (omega arith, omega arith, omega arith)) (λ e. if-by G _ (λ f. (omega arith, omega arith, omega arith)) (λ f. if-by G _ (λ g. (omega arith, omega arith, omega arith)) (λ g. read-small file L budget wanted room (parse file) refl)))

@@ -14,24 +14,23 @@ use Rattle.meaning.specs.Terms.{Term, var, app, Terms, count, inst, insts, occu
 use Rattle.meaning.specs.Rules.{Call, Goal, call, cut, Rules}
 use Rattle.meaning.specs.Store.{Store, value, follow}
 use Rattle.meaning.specs.Answers.{pieces, output, Fit, fits, stops}
-use Rattle.meaning.specs.Moves.{Limits, Open, goal, cut-to, cut-idle, Derivation, Numbered, Choice, choice, Pair, Move, trying, taking, cutting, Done, State, ended, due}
-use Rattle.meaning.specs.Moves.{nothing, spend, list, clauses-of, over, body-goal, query-goal, pairs, with-goals, with-binding, with-step, keep, fail, answer, answered, put-out, answering, take-goal, go-on, matching, binding, compared, take-pair, try-head, move, start, run}
+use Rattle.meaning.specs.Moves.{Limits, Open, goal, cut-to, Derivation, Numbered, Choice, choice, Pair, Move, trying, taking, cutting, Done, State, ended, due}
+use Rattle.meaning.specs.Moves.{nothing, spend, list, clauses-of, over, body-goal, query-goal, asked, pairs, with-goals, with-binding, with-step, keep, fail, answer, answered, put-out, answering, take-goal, go-on, matching, binding, compared, take-pair, try-head, move, start-keeping, run}
 use Rattle.demands.specs.Proofs.{Each, Some, IsProof, WellFormed, WellClause, NoCut, Uncut}
 use Rattle.laws.specs.IfLaws.{if-by}
 use Rattle.demands.specs.TermLaws.{In, Ins, occurs-true, occurs-false, no-loop}
 use Rattle.demands.specs.StoreLaws.{Free, Solves, solves-values, solves-follow, value-free, follow-free}
 use Rattle.demands.specs.WellLaws.{Good, GoodPairs, follow-good, pairs-good, append-good, goods-more, Agree, agree-append, pairs-agree}
-use Rattle.demands.specs.Ways.{Under, todo, GoodAt, Exact, asked, asked-good, asked-exact, with-goal, OfGoal, head-pairs, exact-none, exact-pairs, exact-bind, exact-goals, exact-goal, exact-step, exact-answer, answer-right, step-good, over-good}
-use Rattle.demands.specs.Order.{each-at, some-map, each-drop, some-drop, clauses-known, clauses-ascend, clauses-all, Ascends, InChoice, InChoices, Stacked, StackedFrom, stacked-from, stacked-drop, before-choices, keep-all}
+use Rattle.demands.specs.Ways.{Under, todo, GoodAt, Exact, asked-good, asked-exact, with-goal, OfGoal, head-pairs, exact-none, exact-pairs, exact-bind, exact-goals, exact-goal, exact-step, exact-answer, answer-right, step-good, over-good}
+use Rattle.demands.specs.Order.{each-at, some-map, each-drop, some-drop, clauses-known, clauses-ascend, clauses-all, Ascends, InChoice, InChoices, Stacked, StackedFrom, stacked-from, stacked-drop, before-choices}
 use Rattle.demands.specs.Stops.{fitting-unfit, unfit-range}
 use Rattle.demands.specs.Sofar.{Sofar, sofar-none, sofar-less, sofar-answer, Fine, sofar-fine}
 
--- no cut of a clause is among the open goals
+-- no cut is among the open goals
 abbrev pub Free-of-cut : List Open → Type 0
 Free-of-cut [] = Unit {0}
 Free-of-cut (goal g ∷ gs) = Free-of-cut gs
 Free-of-cut (cut-to h ∷ gs) = ⊥
-Free-of-cut (cut-idle ∷ gs) = Free-of-cut gs
 
 body-free : (b h : ℕ) (gs : List Goal) (os : List Open) → NoCut gs → Free-of-cut os → Free-of-cut (map (body-goal b h) gs ++ os)
 unfolding body-goal
@@ -39,11 +38,11 @@ body-free b h [] os n f = f
 body-free b h (call g ∷ gs) os n f = body-free b h gs os n f
 body-free b h (cut ∷ gs) os n f = absurd n
 
-query-free : (gs : List Goal) → Free-of-cut (map query-goal gs)
+query-free : (h : ℕ) (gs : List Goal) → NoCut gs → Free-of-cut (map (query-goal h) gs)
 unfolding query-goal
-query-free [] = tt
-query-free (call g ∷ gs) = query-free gs
-query-free (cut ∷ gs) = query-free gs
+query-free h [] n = tt
+query-free h (call g ∷ gs) n = query-free h gs n
+query-free h (cut ∷ gs) n = absurd n
 
 -- going on by an untried clause of a goal is going on from that goal
 in-choice-under : (p : List ℕ) (ks : List Numbered) (ls : List ℕ) → Some (λ k. Under (p ++ k .number ∷ []) ls) ks → Under p ls
@@ -85,7 +84,7 @@ module _ (R : Rules) (wf : WellFormed R) where
   abbrev pub Due : Move → Done → Type 0
   Due (trying k (choice ks g n) cs) d = Back (choice (k ∷ ks) g n ∷ cs) d
   Due (taking p ps n cs) d = At (p ∷ ps) n cs d
-  Due (cutting h n cs) d = At [] n cs d × (Uncut R → length cs ≤ h)
+  Due (cutting h n cs) d = At [] n cs d × ¬ Uncut R
 
   abbrev pub Holds : State → Type 0
   Holds (ended e d) = Fine R e (d .listed)
@@ -172,7 +171,6 @@ module _ (R : Rules) (wf : WellFormed R) where
     unfolding take-goal with-goals
     take-goal-holds [] s u p cs d a = answering-holds _ cs d refl a
     take-goal-holds (cut-to h ∷ gs) s u p cs d a = (past-cut (cut-to h) gs s u p cs d refl (λ q. absurd (a .uncut q)) a, λ q. absurd (a .uncut q))
-    take-goal-holds (cut-idle ∷ gs) s u p cs d a = (past-cut cut-idle gs s u p cs d refl (a .uncut) a, λ q. omega arith)
     take-goal-holds (goal g ∷ gs) s u p cs d a =
         fail-holds (choice untried g (record { goals = gs; store = s; cells = u; steps = p }) ∷ cs) d (record {
           choices = (record { good = a .good; exact = a .exact; untried = clauses-known (g .predicate) (R .clauses); ascends = clauses-ascend (g .predicate) 0 (R .clauses); uncut = a .uncut }, a .choices);
@@ -355,7 +353,7 @@ module _ (R : Rules) (wf : WellFormed R) where
         in-again ls (inr o) = inr (inr o)
 
     -- ---- a cut
-    cut-holds : (h : ℕ) (n : Derivation) (cs : List Choice) (d : Done) → At [] n cs d → (Uncut R → length cs ≤ h) → At [] n (keep h cs) d
+    cut-holds : (h : ℕ) (n : Derivation) (cs : List Choice) (d : Done) → At [] n cs d → ¬ Uncut R → At [] n (keep h cs) d
     unfolding keep
     cut-holds h n cs d a l = record {
       good = a .good;
@@ -364,7 +362,7 @@ module _ (R : Rules) (wf : WellFormed R) where
       uncut = a .uncut;
       choices = each-drop GoodOne (length cs - h) cs (a .choices);
       stacked = stacked-drop (length cs - h) (n .steps) cs (a .stacked);
-      sofar = sofar-less R _ _ (d .listed) kept (λ u ks p o. subst (λ (x : List Choice). Under (n .steps) ks ⊎ InChoices x ks) (sym (keep-all h cs (l u))) o) (a .sofar);
+      sofar = sofar-less R _ _ (d .listed) kept (λ u. absurd (l u)) (a .sofar);
     }
       where
         kept : (ks : List ℕ) → Under (n .steps) ks ⊎ InChoices (drop (length cs - h) cs) ks → Under (n .steps) ks ⊎ InChoices cs ks
@@ -399,16 +397,16 @@ module _ (R : Rules) (wf : WellFormed R) where
     nothing-fine : (e : ℕ) → e ≢ 20 → Fine R e []
     nothing-fine e h = sofar-fine R e (IsProof R) [] (λ q. absurd (h q)) (sofar-none R (IsProof R) (λ ks p. p))
 
-    pub start-holds : Holds (start R L wanted room)
-    unfolding start nothing
-    start-holds =
+    pub start-holds : (h : ℕ) → Holds (start-keeping R L wanted room h)
+    unfolding start-keeping nothing
+    start-holds h =
         if-by Holds (eqb wanted 0) (λ e. nothing-fine 21 (omega arith))
         (λ e. if-by Holds (ltb (L .cells) (R .variables)) (λ f. nothing-fine 23 (omega arith))
-        (λ f. go-on-holds (asked R) [] _ (record {
-          good = asked-good R wf;
+        (λ f. go-on-holds (asked R h) [] _ (record {
+          good = asked-good R wf h;
           pairs = tt;
-          exact = asked-exact R wf;
-          uncut = λ u. query-free (R .query);
+          exact = asked-exact R wf h;
+          uncut = λ u. query-free h (R .query) (u .query);
           choices = tt;
           stacked = tt;
           sofar = sofar-none R _ (λ ks p. inl (ks, refl));

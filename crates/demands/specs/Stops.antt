@@ -11,12 +11,13 @@ use lib.Dec.{ltb, eqb}
 use lib.ListN.{length}
 use Rattle.meaning.specs.If.{if_then_else_}
 use Rattle.meaning.specs.Terms.{Term, var, app, Terms, inst, occurs}
+use Rattle.meaning.specs.Editions.{todays}
 use Rattle.meaning.specs.Rules.{Call, Rules}
 use Rattle.meaning.specs.Store.{empty, value, follow}
 use Rattle.meaning.specs.Answers.{Answer, Piece, piece, pieces, output, Fit, fits, stops, fitting}
-use Rattle.meaning.specs.Moves.{Limits, Open, goal, cut-to, cut-idle, Derivation, Numbered, Choice, choice, Pair, Move, trying, taking, cutting, Done, State, ended, due}
-use Rattle.meaning.specs.Moves.{nothing, spend, list, query-goal, over, pairs, with-binding, with-step, keep, fail}
-use Rattle.meaning.specs.Moves.{answer, answered, put-out, answering, take-goal, go-on, matching, binding, compared, take-pair, try-head, move, start, run}
+use Rattle.meaning.specs.Moves.{Limits, Open, goal, cut-to, Derivation, Numbered, Choice, choice, Pair, Move, trying, taking, cutting, Done, State, ended, due}
+use Rattle.meaning.specs.Moves.{nothing, spend, list, asked, over, pairs, with-binding, with-step, keep, fail}
+use Rattle.meaning.specs.Moves.{answer, answered, put-out, answering, take-goal, go-on, matching, binding, compared, take-pair, try-head, move, start-keeping, start, run}
 
 -- The records left to write, `size` bytes being written, stop with this end: "If at some record the answer's size passes the room
 -- left, end 26; if then that value's nodes due exceed W, end 25; whichever comes first in written order"
@@ -43,10 +44,6 @@ unfoldable pub made : Move → Made
 made (trying k (choice ks g n) cs) = some (pairs (g .arguments) (over (n .cells) (k .clause .head) .arguments), with-step k (length cs) n)
 made (taking p ps n cs) = matched (follow (n .store) (p .goal-side)) (follow (n .store) (p .head-side)) ps n
 made (cutting h n cs) = some ([], n)
-
--- the derivation at the start
-unfoldable pub first : Rules → Derivation
-first R = record { goals = map query-goal (R .query); store = empty; cells = R .variables; steps = [] }
 
 -- the units that are spent
 unfoldable pub spent : State → ℕ
@@ -100,10 +97,14 @@ module _ (R : Rules) (L : Limits) (wanted room : ℕ) where
         → L .work < length (pairs ts us ++ ps) → Passes (taking p ps n cs) d 25
     over-answer : {m : Move} {n : Derivation} {d : Done} {e : ℕ} → made m ≡ some ([], n) → Overflows n d e → Passes m d e
 
-  -- a state of the run: the start, and what comes of a move that is due while a unit is left
-  pub data Reached (budget : ℕ) : State → Type 0 where
-    started : Reached budget (start R L wanted room)
-    moved : {m : Move} {d : Done} → Reached budget (due m d) → d .units < budget → Reached budget (move R L wanted room m (spend d))
+  -- a state of the run from s: s itself, and what comes of a move that is due while a unit is left
+  pub data ReachedFrom (s : State) (budget : ℕ) : State → Type 0 where
+    started : ReachedFrom s budget s
+    moved : {m : Move} {d : Done} → ReachedFrom s budget (due m d) → d .units < budget → ReachedFrom s budget (move R L wanted room m (spend d))
+
+  -- from the start
+  abbrev pub Reached : ℕ → State → Type 0
+  Reached = ReachedFrom (start R L wanted room)
 
   -- An end of the table, with what was done. 20: no more answers. 21: the wanted number is reached. 22: a move is due, and the budget is
   -- spent. 23 to 26: the start, or a move that is due while a unit is left, passes the limit
@@ -112,7 +113,7 @@ module _ (R : Rules) (L : Limits) (wanted room : ℕ) where
     enough : {d : Done} → length (d .listed) ≡ wanted → End budget 21 d
     no-unit : {m : Move} {d : Done} → Reached budget (due m d) → d .units ≡ budget → End budget 22 d
     start-cells : L .cells < R .variables → End budget 23 nothing
-    start-answer : {e : ℕ} → Overflows (first R) nothing e → End budget e nothing
+    start-answer : {e : ℕ} → Overflows (asked R (todays .query-keeps)) nothing e → End budget e nothing
     move-passes : {m : Move} {d : Done} {e : ℕ} → Reached budget (due m d) → d .units < budget → Passes m (spend d) e → End budget e (spend d)
 
   -- every end is one of 20 to 26
@@ -175,7 +176,6 @@ module _ (R : Rules) (L : Limits) (wanted room : ℕ) where
     goal-comes [] n cs q o = answering-comes n cs q o
     goal-comes (goal g ∷ gs) n cs q o = fail-comes _ d refl
     goal-comes (cut-to h ∷ gs) n cs q o = to-move refl
-    goal-comes (cut-idle ∷ gs) n cs q o = to-move refl
 
     -- where a move makes r
     module _ (cs : List Choice) (r : Made) (o : (n : Derivation) (e : ℕ) → r ≡ some ([], n) → Overflows n d e → E e) where
@@ -222,11 +222,11 @@ module _ (R : Rules) (L : Limits) (wanted room : ℕ) where
   move-comes (cutting h n cs) d = goal-comes d (n .goals) n (keep h cs) refl (λ e o. over-answer refl o)
 
   start-comes : (budget : ℕ) → Comes (λ e. End budget e nothing) nothing (start R L wanted room)
-  unfolding start first nothing go-on
+  unfolding start-keeping nothing go-on
   start-comes budget =
       if-comes (eqb wanted 0) (λ q. to-21 refl (sym (eqb-true _ _ q))) (λ q.
       if-comes (ltb (L .cells) (R .variables)) (λ h. to-limit (start-cells (ltb-true _ _ h))) (λ h.
-      goal-comes nothing _ (first R) [] refl (λ e o. start-answer o)))
+      goal-comes nothing _ (asked R (todays .query-keeps)) [] refl (λ e o. start-answer o)))
 
   -- ---- units
   comes-spent : {E : ℕ → Type 0} {d : Done} {s : State} → Comes E d s → spent s ≡ d .units

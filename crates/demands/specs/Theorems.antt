@@ -8,11 +8,12 @@ use native.Mathlib.Omega.{arith}
 use lib.Dec.{ltb}
 use lib.ListN.{length}
 use Rattle.meaning.specs.Kinds.{file-limit}
+use Rattle.meaning.specs.Editions.{todays}
 use Rattle.meaning.specs.Rules.{Rules}
 use Rattle.meaning.specs.Reading.{Read}
 use Rattle.meaning.specs.Answers.{Answer, output}
 use Rattle.meaning.specs.Moves.{Limits, Done, run, start}
-use Rattle.meaning.specs.Call.{Result, refusal, end, in-range, needed, ending, run-read, result-within, result, output-after, scratch-after}
+use Rattle.meaning.specs.Call.{Result, refusal, end, in-range, needed, ending, run-read, result-by, result, output-after, scratch-after}
 use Rattle.meaning.specs.Terms.{count, row}
 use Rattle.demands.specs.Proofs.{Each, Wells}
 use Rattle.demands.specs.Demands.{Says, Ends, Right, Complete, ThirdDemand, ThirdDemandWithCut, OneOutcome}
@@ -35,13 +36,13 @@ not-refused n p e k u b q = let z : _≡_ {A = ℕ} 0 1 = cc in omega arith
 -- a call that comes to an end is the run of the rules that its file says
 pub result-ran : (file : List ℕ) (L : Limits) (budget wanted scratch room e n u : ℕ) (b : List ℕ) (R : Rules) → Says file R → result file L budget wanted scratch room ≡ end e n u b
     → ending (ran R L budget wanted room) ≡ end e n u b
-unfolding result-within run-read
+unfolding result-by run-read
 result-ran file L budget wanted scratch room e n u b R (seen, at, says) q =
     let G : Result → Type 0 = λ r. r ≡ end e n u b → ending (ran R L budget wanted room) ≡ end e n u b in
     if-by G (not (in-range L)) (λ t p. absurd (not-refused 1 0 e n u b p))
     (λ t. if-by G (ltb file-limit (length file)) (λ v p. absurd (not-refused 2 0 e n u b p))
     (λ v. if-by G (ltb scratch (needed (length file) L)) (λ w p. absurd (not-refused 3 0 e n u b p))
-    (λ w p. subst (λ (r : Read Rules). run-read r L budget wanted room ≡ end e n u b) says p))) q
+    (λ w p. subst (λ (r : Read Rules). run-read todays r L budget wanted room ≡ end e n u b) says p))) q
 
 module _ (R : Rules) (e n u : ℕ) (b : List ℕ) (c : Ends R e n u b) where
   abbrev done : ℕ × Done
@@ -51,7 +52,7 @@ module _ (R : Rules) (e n u : ℕ) (b : List ℕ) (c : Ends R e n u b) where
   same = result-ran (c .file) (c .limits) (c .budget) (c .wanted) (c .scratch) (c .room) e n u b R (c .says) (c .gives)
 
   fine : Fine R (done .0) (done .1 .listed)
-  fine = run-fine R (good-files-are-well-formed (c .file) R (c .says)) (c .limits) (c .wanted) (c .room) (c .budget) _ (start-holds R (good-files-are-well-formed (c .file) R (c .says)) (c .limits) (c .wanted) (c .room))
+  fine = run-fine R (good-files-are-well-formed (c .file) R (c .says)) (c .limits) (c .wanted) (c .room) (c .budget) _ (start-holds R (good-files-are-well-formed (c .file) R (c .says)) (c .limits) (c .wanted) (c .room) (todays .query-keeps))
 
   number : done .0 ≡ e
   unfolding ending

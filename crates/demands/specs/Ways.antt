@@ -12,7 +12,7 @@ use Rattle.meaning.specs.Terms.{Term, var, Terms, count, inst, insts, from, row
 use Rattle.meaning.specs.Rules.{Call, Goal, call, cut, Clause, Rules}
 use Rattle.meaning.specs.Store.{Store, empty, value}
 use Rattle.meaning.specs.Answers.{Answer, renumbered}
-use Rattle.meaning.specs.Moves.{Open, goal, cut-to, cut-idle, Derivation, Numbered, Pair, pairs, over, body-goal, query-goal, with-goals, with-binding, with-step}
+use Rattle.meaning.specs.Moves.{Open, goal, cut-to, Derivation, Numbered, Pair, pairs, over, body-goal, query-goal, asked, with-goals, with-binding, with-step}
 use Rattle.demands.specs.Proofs.{Each, Value, Values, calls, at-values, all-at, Proves, Allows, IsProof, Matches, WellCall, WellClause, WellFormed}
 use Rattle.demands.specs.Demands.{Right}
 use Rattle.demands.specs.GoodFiles.{each-last, index-less}
@@ -36,13 +36,11 @@ abbrev pub todo : List Open → List Call
 todo [] = []
 todo (goal g ∷ gs) = g ∷ todo gs
 todo (cut-to h ∷ gs) = todo gs
-todo (cut-idle ∷ gs) = todo gs
 
 todo-append : (xs ys : List Open) → todo (xs ++ ys) ≡ todo xs ++ todo ys
 todo-append [] ys = refl
 todo-append (goal g ∷ xs) ys = ap (g ∷_) (todo-append xs ys)
 todo-append (cut-to h ∷ xs) ys = todo-append xs ys
-todo-append (cut-idle ∷ xs) ys = todo-append xs ys
 
 all-at-append : (ν : ℕ → Term) (xs ys : List Call) → all-at ν (xs ++ ys) ≡ all-at ν xs ++ all-at ν ys
 all-at-append ν [] ys = refl
@@ -58,11 +56,11 @@ body-at ν b h [] = refl
 body-at ν b h (call g ∷ gs) = ap₂ _∷_ (call-eq (g .predicate) _ _ (insts-insts ν (from b) (g .arguments))) (body-at ν b h gs)
 body-at ν b h (cut ∷ gs) = body-at ν b h gs
 
-query-at : (ν : ℕ → Term) (gs : List Goal) → all-at ν (todo (map query-goal gs)) ≡ all-at ν (calls gs)
+query-at : (ν : ℕ → Term) (h : ℕ) (gs : List Goal) → all-at ν (todo (map (query-goal h) gs)) ≡ all-at ν (calls gs)
 unfolding query-goal
-query-at ν [] = refl
-query-at ν (call g ∷ gs) = ap (at-values ν g ∷_) (query-at ν gs)
-query-at ν (cut ∷ gs) = query-at ν gs
+query-at ν h [] = refl
+query-at ν h (call g ∷ gs) = ap (at-values ν g ∷_) (query-at ν h gs)
+query-at ν h (cut ∷ gs) = query-at ν h gs
 
 use-at : (ν : ℕ → Term) (b h : ℕ) (gs : List Goal) (os : List Open) → all-at ν (todo (map (body-goal b h) gs ++ os)) ≡ all-at (λ i. ν (b + i)) (calls gs) ++ all-at ν (todo os)
 use-at ν b h gs os =
@@ -90,7 +88,6 @@ module _ (R : Rules) where
   goals-more n m h [] w = tt
   goals-more n m h (goal g ∷ gs) w = (call-more n m h g (w .0), goals-more n m h gs (w .1))
   goals-more n m h (cut-to k ∷ gs) w = goals-more n m h gs w
-  goals-more n m h (cut-idle ∷ gs) w = goals-more n m h gs w
 
   pub over-good : (b v : ℕ) (g : Call) → WellCall R v g → WellCall R (b + v) (over b g)
   unfolding over
@@ -102,11 +99,11 @@ module _ (R : Rules) where
   body-good b v h (call g ∷ gs) os w o = (over-good b v g (w .0), body-good b v h gs os (w .1) o)
   body-good b v h (cut ∷ gs) os w o = body-good b v h gs os w o
 
-  pub query-good : (v : ℕ) (gs : List Goal) → Each (WellCall R v) (calls gs) → GoodGoals v (map query-goal gs)
+  pub query-good : (v h : ℕ) (gs : List Goal) → Each (WellCall R v) (calls gs) → GoodGoals v (map (query-goal h) gs)
   unfolding query-goal
-  query-good v [] w = tt
-  query-good v (call g ∷ gs) w = (w .0, query-good v gs (w .1))
-  query-good v (cut ∷ gs) w = query-good v gs w
+  query-good v h [] w = tt
+  query-good v h (call g ∷ gs) w = (w .0, query-good v h gs (w .1))
+  query-good v h (cut ∷ gs) w = query-good v h gs w
 
   pub step-good : (k : Numbered) (h : ℕ) (g : Call) (n : Derivation) → getElem? (R .clauses) (k .number) ≡ some (k .clause) → WellClause R (k .clause) → GoodAt (with-goals (goal g ∷ n .goals) n) → GoodAt (with-step k h n)
   unfolding with-goals with-step
@@ -123,7 +120,6 @@ module _ (R : Rules) where
   goals-under n μ ν h [] w = refl
   goals-under n μ ν h (goal g ∷ gs) w = ap₂ _∷_ (call-eq (g .predicate) _ _ (insts-under (R .functions) n μ ν h (g .arguments) (w .0 .terms))) (goals-under n μ ν h gs (w .1))
   goals-under n μ ν h (cut-to k ∷ gs) w = goals-under n μ ν h gs w
-  goals-under n μ ν h (cut-idle ∷ gs) w = goals-under n μ ν h gs w
 
   -- ---- what is left
   -- values for all cells, those of the query's variables as θ has them, that satisfy the store and E, and with which r proves the calls
@@ -176,17 +172,14 @@ module _ (R : Rules) where
   )
 
   -- ---- the start
-  abbrev pub asked : Derivation
-  asked = record { goals = map query-goal (R .query); store = empty; cells = R .variables; steps = [] }
+  pub asked-good : WellFormed R → (h : ℕ) → GoodAt (asked R h)
+  asked-good w h = record { sound = tt; store = tt; goals = query-good (R .variables) h (R .query) (w .query); asks = omega arith; numbers = tt }
 
-  pub asked-good : WellFormed R → GoodAt asked
-  asked-good w = record { sound = tt; store = tt; goals = query-good (R .variables) (R .query) (w .query); asks = omega arith; numbers = tt }
-
-  pub asked-exact : WellFormed R → Exact [] asked
-  asked-exact wf θ o ks = (
+  pub asked-exact : WellFormed R → (h : ℕ) → Exact [] (asked R h)
+  asked-exact wf h θ o ks = (
     (λ l. let (r, e, w) = l in
-        ((o, subst (λ (x : List ℕ). Proves R x (all-at θ (calls (R .query)))) (sym e) (subst (Proves R r) (goals-under (R .variables) (w .ν) θ (w .agrees) (map query-goal (R .query)) (query-good (R .variables) (R .query) (wf .query)) ∙ query-at θ (R .query)) (w .proves))), (r, e))),
-    λ b. (ks, refl, record { ν = θ; are-values = o; agrees = λ i h. refl; solves = tt; also = tt; proves = rw (query-at θ (R .query)) (b .0 .1) }),
+        ((o, subst (λ (x : List ℕ). Proves R x (all-at θ (calls (R .query)))) (sym e) (subst (Proves R r) (goals-under (R .variables) (w .ν) θ (w .agrees) (map (query-goal h) (R .query)) (query-good (R .variables) h (R .query) (wf .query)) ∙ query-at θ h (R .query)) (w .proves))), (r, e))),
+    λ b. (ks, refl, record { ν = θ; are-values = o; agrees = λ i l. refl; solves = tt; also = tt; proves = rw (query-at θ h (R .query)) (b .0 .1) }),
   )
 
   -- ---- a goal and a clause

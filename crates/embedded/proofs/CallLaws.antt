@@ -9,10 +9,10 @@ use lib.ListN.{length, set, take, drop, replicate, length-replicate, take-append
 use lib.Seq.{set-out, length-take-le, drop-append-le}
 use borrow.Author.Tests.{lt-ltb, le-ltb}
 use Rattle.laws.specs.IfLaws.{if-true, if-false}
-use Rattle.meaning.specs.Kinds.{todays-limits}
+use Rattle.meaning.specs.Editions.{todays}
 use Rattle.meaning.specs.Moves.{Limits as Limits·defined}
 use Rattle.meaning.specs.Call.{Result, refusal, end, result, output-after}
-use Rattle.meaning.specs.Embedded.{embedded-in, embedded-within, embedded, embedded-limits, embedded-scratch, room-limit, packed}
+use Rattle.meaning.specs.Embedded.{embedded-in, embedded-by, embedded, embedded-limits, embedded-scratch, room-limit, packed}
 use Rattle.meaning.specs.Outcome.{Said, says, to-say, end-number}
 use Rattle.meaning.specs.declared.Place.{Place}
 use Rattle.meaning.specs.declared.Totals.{Totals}
@@ -100,13 +100,13 @@ module _ (file : List ℕ) (budget wanted : ℕ) (o : List ℕ) where
   pub embed-long : 4_000 < length file → EmbedRuns file budget wanted o (Refused 2 (record { 0 = 0 })) o
   unfolding embedded-in says to-say output-after
   embed-long h =
-      let e : embedded-in todays-limits file budget wanted (length o) ≡ refusal 2 0 = if-true _ _ _ (lt-ltb 4_000 (length file) h) in
+      let e : embedded-in todays file budget wanted (length o) ≡ refusal 2 0 = if-true _ _ _ (lt-ltb 4_000 (length file) h) in
       record { outcome = ap to-say (sym e); output = ap (λ (x : Result). output-after x o) (sym e) }
 
   pub embed-runs : (r : Outcome) (v p : List ℕ) → length file ≤ 4_000 → Called file (record { cells = 1_000; steps = 400; work = 200 }) budget wanted (replicate embedded-scratch 0) o r v p → EmbedRuns file budget wanted o r p
   unfolding embedded-in own-limits
   embed-runs r v p h a =
-      let e : result-of file own-limits budget wanted (replicate embedded-scratch 0) o ≡ embedded-in todays-limits file budget wanted (length o) =
+      let e : result-of file own-limits budget wanted (replicate embedded-scratch 0) o ≡ embedded-in todays file budget wanted (length o) =
       ap₂ (λ (L : Limits·defined) (n : ℕ). result file L budget wanted n (length o)) limits-are (length-replicate {A = ℕ} embedded-scratch 0) ∙ sym (if-false _ _ _ (le-ltb 4_000 (length file) h)) in
       record { outcome = a .outcome ∙ ap to-say e; output = a .bytes ∙ ap (λ (x : Result). output-after x o) e }
 
@@ -116,9 +116,9 @@ module _ (file : List ℕ) (budget wanted : ℕ) (o : List ℕ) where
   packs (end e n u b) x h q = let k = h .2 in rw q (ap (e * 2 ^ 32 +_) (mod-eq-of-lt (omega arith)))
 
   pub embed-all : (r : Outcome) (p : List ℕ) (n : ℕ) → length o ≤ 4_000_000_000 → EmbedRuns file budget wanted o r p → n ≡ packed-of r → EmbedTells file budget wanted o n p
-  unfolding embedded-within embedded-in
+  unfolding embedded-by embedded-in
   embed-all r p n h a e =
-      let same : embedded-in todays-limits file budget wanted (length o) ≡ embedded file budget wanted (length o) = ap (λ (k : ℕ). embedded-in todays-limits file budget wanted k) (sym (min-eq-left h)) in
+      let same : embedded-in todays file budget wanted (length o) ≡ embedded file budget wanted (length o) = ap (λ (k : ℕ). embedded-in todays file budget wanted k) (sym (min-eq-left h)) in
       record { number = e ∙ packs _ r (embedded-tight file budget wanted (length o) h) (a .outcome) ∙ ap packed same; output = a .output ∙ ap (λ (x : Result). output-after x o) same }
 
 -- a part of the output, and what follows it
@@ -132,10 +132,10 @@ module _ (file : List ℕ) (budget wanted : ℕ) (o : List ℕ) where
   part-after (end e n u b) h l = append-assoc b (drop (length b) (take room-limit o)) (drop room-limit o) ∙ ap (b ++_) (drop-part (length b) room-limit o (h .2) l)
 
   pub embed-some : (r : Outcome) (p : List ℕ) (n : ℕ) → 4_000_000_000 < length o → EmbedRuns file budget wanted (take 4_000_000_000 o) r p → n ≡ packed-of r → EmbedTells file budget wanted o n (p ++ drop 4_000_000_000 o)
-  unfolding embedded-within embedded-in
+  unfolding embedded-by embedded-in
   embed-some r p n h a e =
       let l : length (take room-limit o) ≡ room-limit = length-take-le room-limit o (omega arith) in
-      let same : embedded-in todays-limits file budget wanted (length (take room-limit o)) ≡ embedded file budget wanted (length o) = ap (λ (k : ℕ). embedded-in todays-limits file budget wanted k) (l ∙ sym (min-eq-right (omega arith))) in
+      let same : embedded-in todays file budget wanted (length (take room-limit o)) ≡ embedded file budget wanted (length o) = ap (λ (k : ℕ). embedded-in todays file budget wanted k) (l ∙ sym (min-eq-right (omega arith))) in
       let k = embedded-tight file budget wanted (length (take room-limit o)) (omega arith) in
       record {
         number = e ∙ packs file budget wanted (take room-limit o) _ r k (a .outcome) ∙ ap packed same;

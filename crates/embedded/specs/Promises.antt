@@ -1,5 +1,6 @@
 -- What follows from the promises of the exported functions: one content of every buffer and one number, what the two halves of the number
--- say, the third demand for what the embedded form wrote, and that a file that was good by the earlier limits has them do what they did.
+-- say, the third demand for what the embedded form wrote, and that they do what they did where a request of document 02 changed nothing for
+-- a file.
 -- Assumes nothing.
 use Prim.Native.Nat.{ℕ, _+_, _*_, _/_, _%_, _^_, _≤_, _<_, min}
 use mathlib.Core.Path.{_≡_, refl, sym, ap, ap₂, _∙_}
@@ -10,18 +11,20 @@ use native.Mathlib.Nat.{min-le-right}
 use lib.ListN.{length, drop}
 use borrow.Author.Tests.{ltb-false}
 use Rattle.laws.specs.IfLaws.{if-by}
-use Rattle.meaning.specs.Kinds.{earlier-limits, todays-limits}
+use Rattle.meaning.specs.Kinds.{earlier-limits}
+use Rattle.meaning.specs.Editions.{Edition, document-01, todays, within, keeping}
 use Rattle.meaning.specs.Rules.{Rules}
 use Rattle.meaning.specs.Reading.{parse}
 use Rattle.meaning.specs.Answers.{Answer, output}
-use Rattle.meaning.specs.Call.{Result, refusal, end, result, output-after}
-use Rattle.meaning.specs.Embedded.{embedded-in, embedded-within, embedded, embedded-limits, embedded-scratch, room-limit, packed}
+use Rattle.meaning.specs.Call.{Result, refusal, end, result-by, result, output-after}
+use Rattle.meaning.specs.Embedded.{embedded-in, embedded-by, embedded, embedded-limits, embedded-scratch, room-limit, packed}
 use Rattle.meaning.specs.Outcome.{to-say}
-use Rattle.demands.specs.Proofs.{Uncut}
-use Rattle.demands.specs.Demands.{SaysWithin, Says, LeavesWithin, Ends, Correct, Complete}
+use Rattle.demands.specs.Proofs.{NoCut, Uncut}
+use Rattle.demands.specs.Demands.{SaysWithin, Says, LeavesBy, Ends, Correct, Complete}
 use Rattle.demands.specs.Rooms.{Small, result-small}
 use Rattle.demands.specs.Theorems.{third-demand, third-demand-with-cut}
-use Rattle.demands.specs.LargerLaws.{accepted-before, same-result, same-embedded}
+use Rattle.demands.specs.LargerLaws.{accepted-before, same-result as larger-result, same-embedded as larger-embedded}
+use Rattle.demands.specs.QueryCutLaws.{same-result as cut-result, same-embedded as cut-embedded, settled-result, settled-embedded}
 use Rattle.reading.specs.Verdict.{verdict}
 use Rattle.machine.specs.Calling.{limits-of, result-of}
 use Rattle.search.specs.declared.Limits.{Limits}
@@ -32,20 +35,43 @@ use Rattle.embedded.specs.Telling.{told, CallTells, EmbedTells}
 pub call-once : (file : List ℕ) (l : Limits) (budget wanted : ℕ) (w o r : List ℕ) (u v p q s t : List ℕ) → CallTells file l budget wanted w o r u p s → CallTells file l budget wanted w o r v q t → (u ≡ v) × (p ≡ q) × (s ≡ t)
 call-once file l budget wanted w o r u v p q s t a b = (a .scratch ∙ sym (b .scratch), a .output ∙ sym (b .output), a .words ∙ sym (b .words))
 
--- ---- larger rule sets: a file that was good by the earlier limits
-pub call-before : (file : List ℕ) (R : Rules) → SaysWithin earlier-limits file R → (l : Limits) (budget wanted : ℕ) (w o r v p s : List ℕ) → CallTells file l budget wanted w o r v p s
-    → (x : Result) × (s ≡ told (to-say x) r) × LeavesWithin earlier-limits file (limits-of l) budget wanted w o x v p
-call-before file R good l budget wanted w o r v p s a = (
-  result-of file l budget wanted w o,
-  a .words,
-  record { result-is = sym (same-result file R good (limits-of l) budget wanted (length w) (length o)); scratch-is = a .scratch; output-is = a .output },
-)
+-- ---- an edition that gives the same result: the functions do what that edition says
+module _ (file : List ℕ) (l : Limits) (budget wanted : ℕ) (w o r v p s : List ℕ) (a : CallTells file l budget wanted w o r v p s) where
+  abbrev pub CallBy : Edition → Type 0
+  CallBy E = (x : Result) × (s ≡ told (to-say x) r) × LeavesBy E file (limits-of l) budget wanted w o x v p
 
-pub run-before : (file : List ℕ) (R : Rules) → SaysWithin earlier-limits file R → (budget wanted : ℕ) (o : List ℕ) (n : ℕ) (p : List ℕ) → EmbedTells file budget wanted o n p
-    → (n ≡ packed (embedded-within earlier-limits file budget wanted (length o))) × (p ≡ output-after (embedded-within earlier-limits file budget wanted (length o)) o)
-run-before file R good budget wanted o n p a =
-    let e = same-embedded file R good budget wanted (length o) in
-    (a .number ∙ ap packed e, a .output ∙ ap (λ (x : Result). output-after x o) e)
+  call-by : (E : Edition) → result-by E file (limits-of l) budget wanted (length w) (length o) ≡ result-of file l budget wanted w o → CallBy E
+  call-by E same = (result-of file l budget wanted w o, a .words, record { result-is = sym same; scratch-is = a .scratch; output-is = a .output })
+
+  module _ (R : Rules) where
+    -- 2026-01: a file that was good by the earlier limits
+    pub call-before : SaysWithin earlier-limits file R → CallBy (within earlier-limits todays)
+    call-before good = call-by _ (larger-result todays file R good (limits-of l) budget wanted (length w) (length o))
+
+    -- 2026-02: a file whose query holds no cut
+    pub call-uncut : Says file R → NoCut (R .query) → (h : ℕ) → CallBy (keeping h todays)
+    call-uncut good n h = call-by _ (cut-result todays h file R good n (limits-of l) budget wanted (length w) (length o))
+
+    -- by both: what document 01 says of such a file
+    pub call-settled : SaysWithin earlier-limits file R → NoCut (R .query) → CallBy document-01
+    call-settled good n = call-by _ (settled-result file R good n (limits-of l) budget wanted (length w) (length o))
+
+module _ (file : List ℕ) (budget wanted : ℕ) (o : List ℕ) (n : ℕ) (p : List ℕ) (a : EmbedTells file budget wanted o n p) where
+  abbrev pub RunBy : Edition → Type 0
+  RunBy E = (n ≡ packed (embedded-by E file budget wanted (length o))) × (p ≡ output-after (embedded-by E file budget wanted (length o)) o)
+
+  run-by : (E : Edition) → embedded file budget wanted (length o) ≡ embedded-by E file budget wanted (length o) → RunBy E
+  run-by E same = (a .number ∙ ap packed same, a .output ∙ ap (λ (x : Result). output-after x o) same)
+
+  module _ (R : Rules) where
+    pub run-before : SaysWithin earlier-limits file R → RunBy (within earlier-limits todays)
+    run-before good = run-by _ (larger-embedded todays file R good budget wanted (length o))
+
+    pub run-uncut : Says file R → NoCut (R .query) → (h : ℕ) → RunBy (keeping h todays)
+    run-uncut good n h = run-by _ (cut-embedded todays h file R good n budget wanted (length o))
+
+    pub run-settled : SaysWithin earlier-limits file R → NoCut (R .query) → RunBy document-01
+    run-settled good n = run-by _ (settled-embedded file R good n budget wanted (length o))
 
 pub check-before : (file : List ℕ) (R : Rules) → SaysWithin earlier-limits file R → checked-number (verdict (parse file)) ≡ 0
 unfolding checked-number verdict
@@ -60,7 +86,7 @@ tight : (file : List ℕ) (room : ℕ) (r : Result) → length file ≤ 4_000 �
 tight file room (refusal n p) l h s = let k = s .2 in (s .0, s .1, omega arith)
 tight file room (end e n u b) l h s = let k = s .2 in (s .0, s .1, omega arith)
 
-pub embedded-tight : (file : List ℕ) (budget wanted room : ℕ) → room ≤ room-limit → Tight (embedded-in todays-limits file budget wanted room)
+pub embedded-tight : (file : List ℕ) (budget wanted room : ℕ) → room ≤ room-limit → Tight (embedded-in todays file budget wanted room)
 unfolding embedded-in
 embedded-tight file budget wanted room h =
     let good : Result = result file embedded-limits budget wanted embedded-scratch room in
@@ -88,13 +114,13 @@ module _ (file : List ℕ) (budget wanted : ℕ) (o : List ℕ) where
       ended k u w (e ∙ ap (λ (x : ℕ). end x k u w) (sym high)) (omega arith) (omega arith) g
 
   pub run-apart : (n : ℕ) (p : List ℕ) → EmbedTells file budget wanted o n p → Apart n p
-  unfolding embedded-within
+  unfolding embedded-by
   run-apart n p a = apart (embedded file budget wanted (length o)) refl (embedded-tight file budget wanted (min (length o) room-limit) (min-le-right (length o) room-limit)) n p (a .number) (a .output)
 
   -- ---- an end
   module _ (R : Rules) (says : Says file R) (e answers units : ℕ) (b : List ℕ) (gives : embedded file budget wanted (length o) ≡ end e answers units b) (n : ℕ) (p : List ℕ) (a : EmbedTells file budget wanted o n p) where
     whole : result file embedded-limits budget wanted embedded-scratch (min (length o) room-limit) ≡ end e answers units b
-    unfolding embedded-within embedded-in
+    unfolding embedded-by embedded-in
     whole =
         if-by (λ (x : Result). x ≡ end e answers units b → result file embedded-limits budget wanted embedded-scratch (min (length o) room-limit) ≡ end e answers units b) (ltb 4_000 (length file))
         (λ t q. let z : _≡_ {A = ℕ} 0 1 = cc in absurd (omega arith)) (λ t q. q) gives

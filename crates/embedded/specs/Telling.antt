@@ -4,7 +4,7 @@ use Prim.Native.Nat.{ℕ, _+_}
 use mathlib.Core.Path.{_≡_}
 use mathlib.Core.List.{List}
 use lib.ListN.{length, set}
-use Rattle.meaning.specs.Kinds.{todays-limits}
+use Rattle.meaning.specs.Editions.{todays}
 use Rattle.meaning.specs.Call.{needed, output-after, scratch-after}
 use Rattle.meaning.specs.Embedded.{embedded-in, embedded, packed}
 use Rattle.meaning.specs.Outcome.{Said, refused-as, ended-as, says, to-say}
@@ -42,8 +42,8 @@ packed-of r = packed-said (says r)
 
 -- the embedded form where all of the output counts as room
 pub record EmbedRuns (file : List ℕ) (budget wanted : ℕ) (o : List ℕ) (r : Outcome) (p : List ℕ) : Type 0 where
-  pub outcome : says r ≡ to-say (embedded-in todays-limits file budget wanted (length o))
-  pub output : p ≡ output-after (embedded-in todays-limits file budget wanted (length o)) o
+  pub outcome : says r ≡ to-say (embedded-in todays file budget wanted (length o))
+  pub output : p ≡ output-after (embedded-in todays file budget wanted (length o)) o
 
 -- the embedded form: its packed number, and what is in the output after it
 pub record EmbedTells (file : List ℕ) (budget wanted : ℕ) (o : List ℕ) (n : ℕ) (p : List ℕ) : Type 0 where

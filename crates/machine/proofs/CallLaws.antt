@@ -13,10 +13,11 @@ use borrow.Author.Fill.{fill-none, fill-more}
 use Rattle.laws.specs.IfLaws.{if-true, if-false}
 use Rattle.meaning.specs.If.{if_then_else_}
 use Rattle.meaning.specs.Kinds.{file-limit}
+use Rattle.meaning.specs.Editions.{todays}
 use Rattle.meaning.specs.Rules.{Rules}
 use Rattle.meaning.specs.Reading.{Read, refused, read, parse}
 use Rattle.meaning.specs.Moves.{Done, run, start}
-use Rattle.meaning.specs.Call.{Result, refusal, end, result-within, ending, run-read, in-range, needed, output-after, scratch-after}
+use Rattle.meaning.specs.Call.{Result, refusal, end, result-by, ending, run-read, in-range, needed, output-after, scratch-after}
 use Rattle.meaning.specs.Outcome.{says, to-say}
 use Rattle.meaning.specs.declared.Place.{Place}
 use Rattle.meaning.specs.declared.Outcome.{Outcome}
@@ -189,9 +190,9 @@ module _ (file : List ℕ) (l : Limits) (c : Counts) (w : List ℕ) (a : Can fil
     abbrev ran : ℕ × Done
     ran = run (setting .rules) (limits-of l) wanted (length o) budget (start (setting .rules) (limits-of l) wanted (length o))
 
-    run-is : run-read (parse file) (limits-of l) budget wanted (length o) ≡ ending ran
+    run-is : run-read todays (parse file) (limits-of l) budget wanted (length o) ≡ ending ran
     unfolding run-read setting
-    run-is = let y = can-lay file l c w a in ap (λ (x : Read Rules). run-read x (limits-of l) budget wanted (length o)) (y .good)
+    run-is = let y = can-lay file l c w a in ap (λ (x : Read Rules). run-read todays x (limits-of l) budget wanted (length o)) (y .good)
 
     pub run-is-good : (query : Place) (g : Given) (v u q : List ℕ) (r : Outcome) → wanted < 2 ^ 32 → budget < 2 ^ 32 → length o * 1 < 2 ^ 63 → HasLaid file w query v → length v ≡ length w
         → g ≡ given-of (length file) l (c .functions) (c .predicates) query → Runs file g budget wanted v o r u q → RunsGood file l budget wanted o r q
@@ -215,7 +216,7 @@ not-false false e = absurd (false≢true (sym e))
 -- ---- the whole call
 module _ (file : List ℕ) (l : Limits) (budget wanted : ℕ) (w o : List ℕ) where
   abbrev good : Result
-  good = run-read (parse file) (limits-of l) budget wanted (length o)
+  good = run-read todays (parse file) (limits-of l) budget wanted (length o)
 
   -- a refusal leaves everything as it was
   refuses : (n : ℕ) (p : Place) → result-of file l budget wanted w o ≡ refusal n (p .0) → Called file l budget wanted w o (Refused n p) w o
@@ -228,7 +229,7 @@ module _ (file : List ℕ) (l : Limits) (budget wanted : ℕ) (w o : List ℕ) w
 
   module _ (b : Bool) (e : b ≡ allowed l) where
     pub call-limits : not b ≡ true → Called file l budget wanted w o (Refused 1 (record { 0 = 0 })) w o
-    unfolding result-within
+    unfolding result-by
     call-limits f = refuses 1 _ (if-true (not (in-range (limits-of l))) (refusal 1 0) _ (sym (ap not e) ∙ f))
 
     module _ (f : not b ≡ false) where
@@ -236,7 +237,7 @@ module _ (file : List ℕ) (l : Limits) (budget wanted : ℕ) (w o : List ℕ) w
       no-limits s g = if-false (not (in-range (limits-of l))) (refusal 1 0) s (sym (ap not e) ∙ f) ∙ g
 
       pub call-long : 60_000 < length file → Called file l budget wanted w o (Refused 2 (record { 0 = 0 })) w o
-      unfolding result-within
+      unfolding result-by
       call-long h = let z = limit-is in refuses 2 _ (no-limits _ (if-true (ltb file-limit (length file)) (refusal 2 0) _ (lt-ltb file-limit (length file) (omega arith))))
 
       module _ (h : length file ≤ 60_000) (n : ℕ) (k : n ≡ needed (length file) (limits-of l)) where
@@ -244,7 +245,7 @@ module _ (file : List ℕ) (l : Limits) (budget wanted : ℕ) (w o : List ℕ) w
         not-long s g = let z = limit-is in if-false (ltb file-limit (length file)) (refusal 2 0) s (le-ltb file-limit (length file) (omega arith)) ∙ g
 
         pub call-scratch : length w < n → Called file l budget wanted w o (Refused 3 (record { 0 = 0 })) w o
-        unfolding result-within
+        unfolding result-by
         call-scratch q = refuses 3 _ (no-limits _ (not-long _ (if-true (ltb (length w) (needed (length file) (limits-of l))) (refusal 3 0) _ (lt-ltb (length w) (needed (length file) (limits-of l)) (omega arith)))))
 
         pub call-tested : n ≤ length w → Tested file l w
@@ -253,7 +254,7 @@ module _ (file : List ℕ) (l : Limits) (budget wanted : ℕ) (w o : List ℕ) w
   -- a file whose tests have passed
   module _ (a : Tested file l w) where
     read-result : result-of file l budget wanted w o ≡ good
-    unfolding result-within
+    unfolding result-by
     read-result =
         let t = a .in-limits in
         no-limits (in-range (limits-of l)) refl (ap not t) _
@@ -264,7 +265,7 @@ module _ (file : List ℕ) (l : Limits) (budget wanted : ℕ) (w o : List ℕ) w
       pub read-can : (c : Counts) → x ≡ Good c → Can file l c w
       read-can c g = record { tested = a; good = sym y ∙ g }
 
-      refused-read : (m : ℕ) (p : Place) (r : Read Rules) → verdict r ≡ Refused·checked m p → run-read r (limits-of l) budget wanted (length o) ≡ refusal m (p .0)
+      refused-read : (m : ℕ) (p : Place) (r : Read Rules) → verdict r ≡ Refused·checked m p → run-read todays r (limits-of l) budget wanted (length o) ≡ refusal m (p .0)
       unfolding verdict run-read refusal-of
       refused-read m p (refused n k) g = ap refusal-of g
       refused-read m p (read R seen at) g = absurd (refused-good (sym g))
@@ -283,7 +284,7 @@ module _ (file : List ℕ) (l : Limits) (budget wanted : ℕ) (w o : List ℕ) w
     pub part-can : Can file l c (take n w)
     part-can = let p = part-long in record { tested = record { in-limits = a .tested .in-limits; short = a .tested .short; enough = omega arith }; good = a .good }
 
-    run-ends : (r : Read Rules) → verdict r ≡ Good c → (b : ℕ × Done) → run-read r (limits-of l) budget wanted (length o) ≡ ending b → scratch-after (run-read r (limits-of l) budget wanted (length o)) n w ≡ replicate n 0 ++ drop n w
+    run-ends : (r : Read Rules) → verdict r ≡ Good c → (b : ℕ × Done) → run-read todays r (limits-of l) budget wanted (length o) ≡ ending b → scratch-after (run-read todays r (limits-of l) budget wanted (length o)) n w ≡ replicate n 0 ++ drop n w
     unfolding ending scratch-after
     run-ends r g b e = rw e refl
 

@@ -8,11 +8,12 @@ use native.Mathlib.Omega.{arith}
 use lib.ListN.{length, take, drop, length-append, length-drop, take-append-drop}
 use lib.Seq.{take-at, drop-at, drop-drop}
 use borrow.Author.Tests.{eq-eqb, ne-eqb}
+use Rattle.meaning.specs.Editions.{todays}
 use Rattle.meaning.specs.Rules.{Rules}
 use Rattle.meaning.specs.Store.{Store}
 use Rattle.meaning.specs.Outcome.{end-number, ended-as, says}
 use Rattle.meaning.specs.Answers.{Answer, pieces, bytes, output, Fit, stops, fitting}
-use Rattle.meaning.specs.Moves.{Open, cut-to, cut-idle, Derivation, Choice, choice, Move, trying, taking, cutting, Done, State, ended, due, nothing, spend, list, with-goals, fail, answered, put-out, answering, move, start, run}
+use Rattle.meaning.specs.Moves.{Open, cut-to, Derivation, Choice, choice, Move, trying, taking, cutting, Done, State, ended, due, nothing, spend, list, with-goals, fail, answered, put-out, answering, move, start, run}
 use Rattle.meaning.specs.declared.End.{End}
 use Rattle.meaning.specs.declared.End.the-variants.{Wanted, Budget, Work, Output}
 use Rattle.meaning.specs.declared.Outcome.{Outcome}
@@ -34,10 +35,10 @@ use Rattle.simulation.specs.Rep.{Setting, lay, Base, ChoicesAre, no-choices, ch
 use Rattle.simulation.specs.PlaceLaws.{rules-stand}
 use Rattle.simulation.specs.TableFrames.{tables-room}
 use Rattle.simulation.specs.Undoes.{within-good}
-use Rattle.simulation.specs.States.{SoundAll, none, more, Fair, Run, AtIs, DueIs, is-try, is-pair, is-cut, is-idle, is-answer, is-over as is-over·due}
+use Rattle.simulation.specs.States.{SoundAll, none, more, Fair, Run, AtIs, DueIs, is-try, is-pair, is-cut, is-answer, is-over as is-over·due}
 use Rattle.simulation.specs.Backing.{backs-fail}
 use Rattle.simulation.specs.Going.{ahead-small}
-use Rattle.simulation.specs.Cutting.{cut-moves, idle-moves}
+use Rattle.simulation.specs.Cutting.{cut-moves}
 use Rattle.simulation.specs.Pushing.{plus-small}
 use Rattle.simulation.specs.Trying.{given-of, tries-head}
 use Rattle.simulation.specs.Taking.{moves-pair}
@@ -253,7 +254,6 @@ module _ (X : Setting) (wanted : ℕ) (o₀ : List ℕ) (small : length o₀ < 2
     moves-come g (try-late h) left _ d (is-try t u) hd i few e = is-late left _ d e u h i
     moves-come g (pair-late h) left _ d (is-pair a f u) hd i few e = is-late left _ d e u h i
     moves-come g (cut-late h) left _ d (is-cut a u) hd i few e = is-late left _ d e u h i
-    moves-come g (cut-late h) left _ d (is-idle a u) hd i few e = is-late left _ d e u h i
     moves-come g (tries-one {x = x} {m = m} {w = w} h b) left _ d (is-try {k = k} {ks = ks} {g = c} {n = n} {cs = cs} t u) hd i few e =
         let z = spent-later m h in
         goes-on-by left (trying k (choice ks c n) cs) d m e u h hd i few
@@ -266,10 +266,6 @@ module _ (X : Setting) (wanted : ℕ) (o₀ : List ℕ) (small : length o₀ < 2
         let z = spent-later m h in
         goes-on-by left (cutting k n cs) d m e u h hd i few
         (cut-moves X wanted room w (later m (plus (m .units) 1)) k n cs (spend d) b (later-at X w m (plus (m .units) 1) z a) (fair-of w m n cs (hd .0 .good) (hd .0 .choices) (other-goals (cut-to k ∷ n .goals) a)) (omega arith))
-    moves-come g (cuts-one {m = m} {w = w} h b) left _ d (is-idle {n = n} {cs = cs} a u) hd i few e =
-        let z = spent-later m h in
-        goes-on-by left (cutting (length cs) n cs) d m e u h hd i few
-        (idle-moves X wanted room w (later m (plus (m .units) 1)) n cs (spend d) b (later-at X w m (plus (m .units) 1) z a) (fair-of w m n cs (hd .0 .good) (hd .0 .choices) (other-goals (cut-idle ∷ n .goals) a)) (omega arith))
     moves-come g (lists {m = m} {t = t} {w = w} {o = o} b) left _ d (is-answer n cs a f z u) hd i few e =
         let x = lists-come m n cs w t d o a f u i few b in
         on left _ (x .done) (x .due-is) hd (x .written) (x .few) (let y = x .units-are in omega arith) refl
@@ -316,7 +312,6 @@ module _ (X : Setting) (wanted : ℕ) (o₀ : List ℕ) (small : length o₀ < 2
     runs-come (stops-here g) left _ d (is-try a u) hd i few e = absurd (false≢true (sym g))
     runs-come (stops-here g) left _ d (is-pair a f u) hd i few e = absurd (false≢true (sym g))
     runs-come (stops-here g) left _ d (is-cut a u) hd i few e = absurd (false≢true (sym g))
-    runs-come (stops-here g) left _ d (is-idle a u) hd i few e = absurd (false≢true (sym g))
     runs-come (stops-here g) left _ d (is-answer n cs a f z u) hd i few e = absurd (false≢true (sym g))
     runs-come (stops-here {t = t} {o = o} g) left _ d (is-over·due n {m = m} u) hd i few e = subst (Came (over-of n m t) o) (sym (run-ended left (end-number n) d)) (came-over n m t d o u i)
     runs-come {q = q} {r = r} (onward {n = n} {s = s} {v = v} {p = p} g mv rest) left st d a hd i few e =
@@ -335,4 +330,4 @@ module _ (X : Setting) (wanted : ℕ) (o₀ : List ℕ) (small : length o₀ < 2
     -- a run comes to what the definition says
     pub run-comes : {w v q : List ℕ} {r : Outcome} → Base X w → Runs (X .file) (given-of X) budget wanted w o₀ r v q → Came r q (run R (X .limits) wanted room budget (start R (X .limits) wanted room))
     unfolding nothing
-    run-comes b (runs s f) = runs-come f budget _ nothing (start-comes X wanted room b s) (start-holds R wf (X .limits) wanted room) nothing-written (some-wanted s) (omega arith)
+    run-comes b (runs s f) = runs-come f budget _ nothing (start-comes X wanted room b s) (start-holds R wf (X .limits) wanted room (todays .query-keeps)) nothing-written (some-wanted s) (omega arith)

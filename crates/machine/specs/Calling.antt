@@ -6,6 +6,7 @@ use mathlib.Core.Bool.{Bool, true}
 use mathlib.Core.List.{List}
 use lib.ListN.{length}
 use Rattle.meaning.specs.Kinds.{file-limit}
+use Rattle.meaning.specs.Editions.{todays}
 use Rattle.meaning.specs.Moves.{Limits as Limits·defined}
 use Rattle.meaning.specs.Reading.{parse}
 use Rattle.meaning.specs.Call.{Result, result, run-read, in-range, needed, output-after, scratch-after}
@@ -55,5 +56,5 @@ pub record Can (file : List ℕ) (l : Limits) (c : Counts) (w : List ℕ) : Type
 
 -- a good file is run: what the run says, and the output after it
 pub record RunsGood (file : List ℕ) (l : Limits) (budget wanted : ℕ) (o : List ℕ) (r : Outcome) (q : List ℕ) : Type 0 where
-  pub outcome : says r ≡ to-say (run-read (parse file) (limits-of l) budget wanted (length o))
-  pub bytes : q ≡ output-after (run-read (parse file) (limits-of l) budget wanted (length o)) o
+  pub outcome : says r ≡ to-say (run-read todays (parse file) (limits-of l) budget wanted (length o))
+  pub bytes : q ≡ output-after (run-read todays (parse file) (limits-of l) budget wanted (length o)) o

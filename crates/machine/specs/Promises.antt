@@ -1,6 +1,6 @@
 -- What follows from the promise of the whole call: there is one outcome and one content of each buffer; a refusal leaves everything as
--- it was; an end leaves the needed scratch zero and the rest of it and of the output unchanged; what the function wrote is complete; and a
--- file that was good by the earlier limits has it leave what it left.
+-- it was; an end leaves the needed scratch zero and the rest of it and of the output unchanged; what the function wrote is complete; and
+-- where a request of document 02 changed nothing for a file, it leaves what it left before.
 -- Assumes nothing.
 use Prim.Native.Nat.{ℕ, _≤_}
 use mathlib.Core.Path.{_≡_, refl, sym, ap, ap₂, _∙_, subst}
@@ -9,9 +9,10 @@ use lib.Dec.{eqb}
 use lib.ListN.{length, drop, replicate}
 use Rattle.meaning.specs.If.{if_then_else_}
 use Rattle.meaning.specs.Kinds.{earlier-limits}
+use Rattle.meaning.specs.Editions.{Edition, document-01, todays, within, keeping}
 use Rattle.meaning.specs.Rules.{Rules}
 use Rattle.meaning.specs.Answers.{Answer, output}
-use Rattle.meaning.specs.Call.{Result, refusal, end, needed, output-after, scratch-after}
+use Rattle.meaning.specs.Call.{Result, refusal, end, result-by, needed, output-after, scratch-after}
 use Rattle.meaning.specs.Outcome.{end-number, Said, refused-as, ended-as, says, to-say}
 use Rattle.meaning.specs.declared.Place.{Place}
 use Rattle.meaning.specs.declared.Totals.{Totals}
@@ -19,10 +20,11 @@ use Rattle.meaning.specs.declared.End.{End}
 use Rattle.meaning.specs.declared.End.the-variants.{NoMore, Wanted, Budget, Cells, Steps, Work, Output}
 use Rattle.meaning.specs.declared.Outcome.{Outcome}
 use Rattle.meaning.specs.declared.Outcome.the-variants.{Refused, Ended}
-use Rattle.demands.specs.Proofs.{Uncut}
-use Rattle.demands.specs.Demands.{SaysWithin, Says, LeavesWithin, Ends, Correct, Complete}
+use Rattle.demands.specs.Proofs.{NoCut, Uncut}
+use Rattle.demands.specs.Demands.{SaysWithin, Says, LeavesBy, Ends, Correct, Complete}
 use Rattle.demands.specs.Theorems.{third-demand, third-demand-with-cut}
-use Rattle.demands.specs.LargerLaws.{same-result}
+use Rattle.demands.specs.LargerLaws.{same-result as larger-result}
+use Rattle.demands.specs.QueryCutLaws.{same-result as cut-result, settled-result}
 use Rattle.demands.specs.Rooms.{Small, result-small}
 use Rattle.search.specs.declared.Limits.{Limits}
 use Rattle.machine.specs.Calling.{limits-of, result-of, Called}
@@ -113,10 +115,25 @@ module _ (file : List ℕ) (l : Limits) (budget wanted : ℕ) (w o : List ℕ) w
   called-ended e t v q a =
       rw (a .words, a .bytes) (subst (λ (s : Said). Came s words-then bytes-then) (sym (a .outcome)) (came x refl (result-small file (limits-of l) budget wanted (length w) (length o))))
 
-  -- ---- larger rule sets: a file that was good by the earlier limits
-  pub called-before : (R : Rules) → SaysWithin earlier-limits file R → (r : Outcome) (v q : List ℕ) → Called file l budget wanted w o r v q
-      → (y : Result) × (says r ≡ to-say y) × LeavesWithin earlier-limits file (limits-of l) budget wanted w o y v q
-  called-before R good r v q a = (x, a .outcome, record { result-is = sym (same-result file R good (limits-of l) budget wanted (length w) (length o)); scratch-is = a .words; output-is = a .bytes })
+  -- ---- an edition that gives the same result: the function leaves what that edition says
+  abbrev pub LeftBy : Edition → Outcome → List ℕ → List ℕ → Type 0
+  LeftBy E r v q = (y : Result) × (says r ≡ to-say y) × LeavesBy E file (limits-of l) budget wanted w o y v q
+
+  left-by : (E : Edition) → result-by E file (limits-of l) budget wanted (length w) (length o) ≡ x → (r : Outcome) (v q : List ℕ) → Called file l budget wanted w o r v q → LeftBy E r v q
+  left-by E same r v q a = (x, a .outcome, record { result-is = sym same; scratch-is = a .words; output-is = a .bytes })
+
+  module _ (R : Rules) (r : Outcome) (v q : List ℕ) (a : Called file l budget wanted w o r v q) where
+    -- 2026-01: a file that was good by the earlier limits
+    pub called-before : SaysWithin earlier-limits file R → LeftBy (within earlier-limits todays) r v q
+    called-before good = left-by _ (larger-result todays file R good (limits-of l) budget wanted (length w) (length o)) r v q a
+
+    -- 2026-02: a file whose query holds no cut
+    pub called-uncut : Says file R → NoCut (R .query) → (h : ℕ) → LeftBy (keeping h todays) r v q
+    called-uncut good n h = left-by _ (cut-result todays h file R good n (limits-of l) budget wanted (length w) (length o)) r v q a
+
+    -- by both: what document 01 says of such a file
+    pub called-settled : SaysWithin earlier-limits file R → NoCut (R .query) → LeftBy document-01 r v q
+    called-settled good n = left-by _ (settled-result file R good n (limits-of l) budget wanted (length w) (length o)) r v q a
 
   -- ---- the third demand, for what the function wrote
   module _ (R : Rules) (says-so : Says file R) (e : End) (t : Totals) (v q : List ℕ) (a : Called file l budget wanted w o (Ended e t) v q) where

@@ -6,11 +6,12 @@ use mathlib.Core.List.{List, _++_}
 use lib.Dec.{leb, ltb}
 use lib.ListN.{length, drop, replicate}
 use Rattle.meaning.specs.If.{if_then_else_}
-use Rattle.meaning.specs.Kinds.{file-limit, RuleLimits, todays-limits}
+use Rattle.meaning.specs.Kinds.{file-limit}
+use Rattle.meaning.specs.Editions.{Edition, todays}
 use Rattle.meaning.specs.Rules.{Rules}
 use Rattle.meaning.specs.Reading.{Read, refused, read, parse-within}
 use Rattle.meaning.specs.Answers.{output}
-use Rattle.meaning.specs.Moves.{Limits, Done, run, start}
+use Rattle.meaning.specs.Moves.{Limits, Done, run, start-keeping}
 
 -- "an end number, answers written, units spent, bytes written; for a refusal, its number and place"
 pub data Result : Type 0 where
@@ -29,23 +30,23 @@ needed F L = 64 + 2 * F + 4 * L .cells + 8 * L .steps + 4 * L .work
 unfoldable pub ending : ℕ × Done → Result
 ending r = end (r .0) (length (r .1 .listed)) (r .1 .units) (output (r .1 .listed))
 
--- a file that was read is run
-unfoldable pub run-read : Read Rules → Limits → ℕ → ℕ → ℕ → Result
-run-read (refused n p) L budget wanted room = refusal n p
-run-read (read R seen at) L budget wanted room = ending (run R L wanted room budget (start R L wanted room))
+-- a file that was read is run, by the rules of an edition
+unfoldable pub run-read : Edition → Read Rules → Limits → ℕ → ℕ → ℕ → Result
+run-read E (refused n p) L budget wanted room = refusal n p
+run-read E (read R seen at) L budget wanted room = ending (run R L wanted room budget (start-keeping R L wanted room (E .query-keeps)))
 
--- "1, 2, 3 are tested in that order, place 0. Then the file is read forward", by these limits of a rule set
-unfoldable pub result-within : RuleLimits → List ℕ → Limits → ℕ → ℕ → ℕ → ℕ → Result
-result-within most file L budget wanted scratch room =
-    let good : Result = run-read (parse-within file most) L budget wanted room in
+-- "1, 2, 3 are tested in that order, place 0. Then the file is read forward"
+unfoldable pub result-by : Edition → List ℕ → Limits → ℕ → ℕ → ℕ → ℕ → Result
+result-by E file L budget wanted scratch room =
+    let good : Result = run-read E (parse-within file (E .limits)) L budget wanted room in
     if not (in-range L) then refusal 1 0 else
     if ltb file-limit (length file) then refusal 2 0 else
     if ltb scratch (needed (length file) L) then refusal 3 0 else
     good
 
--- by today's
+-- by today's rules
 abbrev pub result : List ℕ → Limits → ℕ → ℕ → ℕ → ℕ → Result
-result = result-within todays-limits
+result = result-by todays
 
 -- "output beyond the bytes written is unchanged"; a refusal leaves it as it was
 unfoldable pub output-after : Result → List ℕ → List ℕ

@@ -1,6 +1,7 @@
 pub mod If
 pub mod Terms
 pub mod Kinds
+pub mod Editions
 pub mod Rules
 pub mod Reading
 pub mod Store

@@ -6,6 +6,7 @@ use mathlib.Core.List.{List, [], _∷_, _++_, map}
 use lib.Dec.{ltb, eqb}
 use lib.ListN.{length, drop}
 use Rattle.meaning.specs.If.{if_then_else_}
+use Rattle.meaning.specs.Editions.{todays}
 use Rattle.meaning.specs.Terms.{Term, var, app, Terms, []ₜ, _∷ₜ_, inst, insts, from, occurs, row}
 use Rattle.meaning.specs.Rules.{Call, Goal, call, cut, Clause, Rules}
 use Rattle.meaning.specs.Store.{Store, empty, bind, value, follow}
@@ -17,12 +18,10 @@ pub record Limits : Type 0 where
   pub steps : ℕ
   pub work : ℕ
 
--- An open goal, over cells. A cut knows how many choices it keeps: those there were before its own goal was called.
--- "A cut in the query costs its unit and does nothing else"
+-- an open goal, over cells; a cut knows how many choices it keeps: those there were before its own goal was called
 pub data Open : Type 0 where
   goal : Call → Open
   cut-to : ℕ → Open
-  cut-idle : Open
 
 -- a derivation: its open goals, what its cells hold, how many cells it took, the clause numbers of its steps
 pub record Derivation : Type 0 where
@@ -80,19 +79,23 @@ clauses-of p n (c ∷ cs) =
 unfoldable pub over : ℕ → Call → Call
 over b g = record { predicate = g .predicate; arguments = insts (from b) (g .arguments) }
 
--- a goal of a clause whose variables are counted from b, and whose cuts keep h choices; a goal of the query
+-- a goal of a clause whose variables are counted from b, and of the query; its cuts keep h choices
 unfoldable pub body-goal : ℕ → ℕ → Goal → Open
 body-goal b h (call g) = goal (over b g)
 body-goal b h cut = cut-to h
 
-unfoldable pub query-goal : Goal → Open
-query-goal (call g) = goal g
-query-goal cut = cut-idle
+unfoldable pub query-goal : ℕ → Goal → Open
+query-goal h (call g) = goal g
+query-goal h cut = cut-to h
 
 unfoldable pub pairs : Terms → Terms → List Pair
 pairs []ₜ us = []
 pairs (t ∷ₜ ts) []ₜ = []
 pairs (t ∷ₜ ts) (u ∷ₜ us) = record { goal-side = t; head-side = u } ∷ pairs ts us
+
+-- the derivation at the start, where a cut in the query keeps h choices
+abbrev pub asked : Rules → ℕ → Derivation
+asked R h = record { goals = map (query-goal h) (R .query); store = empty; cells = R .variables; steps = [] }
 
 unfoldable pub with-goals : List Open → Derivation → Derivation
 with-goals gs n = record { goals = gs; store = n .store; cells = n .cells; steps = n .steps }
@@ -141,7 +144,6 @@ module _ (R : Rules) (L : Limits) (wanted room : ℕ) where
   take-goal [] n cs d = answering n cs d
   take-goal (goal g ∷ gs) n cs d = fail (choice (clauses-of (g .predicate) 0 (R .clauses)) g (with-goals gs n) ∷ cs) d
   take-goal (cut-to h ∷ gs) n cs d = due (cutting h (with-goals gs n) cs) d
-  take-goal (cut-idle ∷ gs) n cs d = due (cutting (length cs) (with-goals gs n) cs) d
 
   unfoldable pub go-on : Derivation → List Choice → Done → State
   go-on n cs d = take-goal (n .goals) n cs d
@@ -190,12 +192,17 @@ module _ (R : Rules) (L : Limits) (wanted room : ℕ) where
   move (taking p ps n cs) d = take-pair p ps n cs d
   move (cutting h n cs) d = go-on n (keep h cs) d
 
-  -- "End 21 is tested at the start. Then the query's variables take one cell each; if C is less, end 23 with 0 units"
-  unfoldable pub start : State
-  start =
+  -- "End 21 is tested at the start. Then the query's variables take one cell each; if C is less, end 23 with 0 units"; a cut in the query
+  -- keeps h choices
+  unfoldable pub start-keeping : ℕ → State
+  start-keeping h =
       if eqb wanted 0 then ended 21 nothing else
       if ltb (L .cells) (R .variables) then ended 23 nothing else
-      go-on (record { goals = map query-goal (R .query); store = empty; cells = R .variables; steps = [] }) [] nothing
+      go-on (asked R h) [] nothing
+
+  -- today, none
+  abbrev pub start : State
+  start = start-keeping (todays .query-keeps)
 
   -- Moves, while a unit is left: "one unit is spent (end 22 if none is left)". The end's number, and what was done
   unfoldable pub run : ℕ → State → ℕ × Done

@@ -190,16 +190,16 @@ unfolding entered-words
 enter-is file g t m p variables w a b v n r e f h i j = rw (j, i, f, e, h) enters
 
 -- ---- the other moves
-pub kept-all : (w : List ℕ) (lay : Layout) (choice step : ℕ) → step ≡ 0 → choice ≡ kept-of w lay choice step
+pub kept-none : (w : List ℕ) (lay : Layout) (step : ℕ) → step ≡ 0 → 0 ≡ kept-of w lay step
 unfolding kept-of
-kept-all w lay choice step e = rw e refl
+kept-none w lay step e = rw e refl
 
-pub kept-before : (w : List ℕ) (lay : Layout) (choice step v : ℕ) → (step ≡ 0 → ⊥) → v ≡ step-word w lay step 7 → v ≡ kept-of w lay choice step
+pub kept-before : (w : List ℕ) (lay : Layout) (step v : ℕ) → (step ≡ 0 → ⊥) → v ≡ step-word w lay step 7 → v ≡ kept-of w lay step
 unfolding kept-of
-kept-before w lay choice zero v n e = absurd (n refl)
-kept-before w lay choice (suc i) v n e = e
+kept-before w lay zero v n e = absurd (n refl)
+kept-before w lay (suc i) v n e = e
 
-pub cut-is : (file : List ℕ) (lay : Layout) (m : Regs) (w v : List ℕ) (d : Due) (q c : ℕ) (x : Next) → q ≡ ahead (m .next .place .0) 1 → c ≡ kept-of w lay (m .choice) (m .next .step) → x ≡ settled-next file w lay (record { place = record { 0 = q }; step = m .next .step })
+pub cut-is : (file : List ℕ) (lay : Layout) (m : Regs) (w v : List ℕ) (d : Due) (q c : ℕ) (x : Next) → q ≡ ahead (m .next .place .0) 1 → c ≡ kept-of w lay (m .next .step) → x ≡ settled-next file w lay (record { place = record { 0 = q }; step = m .next .step })
     → GoesOn file lay (record { cells = m .cells; trail = m .trail; steps = m .steps; choice = c; work = m .work; fresh = m .fresh; next = x; units = m .units }) w d v → MovesCut file lay m w d v
 unfolding cut-regs
 cut-is file lay m w v d q c x e f g h = cuts {d = d} {v = v} (rw (← f, ← e, ← g) h)

@@ -148,9 +148,10 @@ pub data MovesPair (file : List ℕ) (g : Given) (m : Regs) (w : List ℕ) : Due
   differ : {d : Due} {v u : List ℕ} → TakesPair file (g .lay) (g .limits .work) (m .units) (m .cells) (m .trail) (m .work) (m .fresh) w Differ v → Backs (g .lay) m (m .trail) (m .choice) v d u → MovesPair file g m w d u
   over-work : {v : List ℕ} → TakesPair file (g .lay) (g .limits .work) (m .units) (m .cells) (m .trail) (m .work) (m .fresh) w Over v → MovesPair file g m w (Over·due Work m) v
 
-unfoldable pub kept-of : List ℕ → Layout → ℕ → ℕ → ℕ
-kept-of w lay choice zero = choice
-kept-of w lay choice (suc i) = step-word w lay (suc i) 7
+-- the latest choice that a cut leaves: none in the query, in a clause's body the latest before the goal of its step
+unfoldable pub kept-of : List ℕ → Layout → ℕ → ℕ
+kept-of w lay zero = 0
+kept-of w lay (suc i) = step-word w lay (suc i) 7
 
 -- where the run is behind a cut
 unfoldable pub cut-regs : List ℕ → List ℕ → Layout → Regs → Regs
@@ -158,7 +159,7 @@ cut-regs file w lay m = record {
   cells = m .cells;
   trail = m .trail;
   steps = m .steps;
-  choice = kept-of w lay (m .choice) (m .next .step);
+  choice = kept-of w lay (m .next .step);
   work = m .work;
   fresh = m .fresh;
   next = settled-next file w lay (record { place = record { 0 = ahead (m .next .place .0) 1 }; step = m .next .step });

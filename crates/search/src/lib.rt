@@ -374,14 +374,15 @@ pub fn enter(
     entered(file, w, lay, m, p, variables, n)
 }
 
-// What a cut leaves: the choices before its own goal; one of the query leaves all.
-fn kept(w: &[u32], lay: Layout, choice: u32, step: u32) -> u32
-    ensures { λ r. ⌜ r ≡ kept-of (now (w .entry)) lay choice step ⌝ }
+// What a cut leaves: the choices before its own goal; one of the query leaves none.
+fn kept(w: &[u32], lay: Layout, step: u32) -> u32
+    ensures { λ r. ⌜ r ≡ kept-of (now (w .entry)) lay step ⌝ }
 {
     if step == 0 {
-        return choice;
+        0
+    } else {
+        read_step(w, lay, step, 7)
     }
-    read_step(w, lay, step, 7)
 }
 
 // A cut, its unit being spent.
@@ -394,7 +395,7 @@ pub fn move_cut(file: &[u8], w: &mut [u32], lay: Layout, m: Regs) -> Due
         place: Place(on(p.0, 1)),
         step: n.step,
     };
-    let choice = kept(w, lay, m.choice, n.step);
+    let choice = kept(w, lay, n.step);
     let next = settled(file, w, lay, rest);
     go_on(file, w, lay, Regs { choice, next, ..m })
 }

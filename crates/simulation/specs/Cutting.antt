@@ -6,7 +6,7 @@ use mathlib.Core.List.{List, [], _∷_}
 use native.Mathlib.Omega.{arith}
 use lib.ListN.{length, drop}
 use Rattle.meaning.specs.Store.{Store}
-use Rattle.meaning.specs.Moves.{Open, cut-to, cut-idle, Derivation, Choice, choice, Pair, Done, keep, with-goals, go-on, matching}
+use Rattle.meaning.specs.Moves.{Open, cut-to, Derivation, Choice, choice, Pair, Done, keep, with-goals, go-on, matching}
 use Rattle.demands.specs.Order.{keep-all}
 use Rattle.words.specs.Words.{ahead}
 use Rattle.search.specs.Search.{step-word, MatchesOn, matched, more, kept-of, cut-regs, MovesCut, cuts}
@@ -16,7 +16,7 @@ use Rattle.simulation.specs.Rep.{Setting, lay, HeightIs, no-height, heig
 use Rattle.simulation.specs.Frames.{choices-later}
 use Rattle.simulation.specs.States.{SoundAll, more as more-sound, Fair, AtIs, DueIs, is-pair}
 use Rattle.simulation.specs.Unmentioned.{Unmentioned}
-use Rattle.simulation.specs.Goals.{First, a-cut, an-idle, goals-first, SettledAt, settled-is}
+use Rattle.simulation.specs.Goals.{First, a-cut, goals-first, SettledAt, settled-is}
 use Rattle.simulation.specs.Going.{ahead-small, goes-on}
 
 module _ (X : Setting) (wanted room : ℕ) where
@@ -76,23 +76,25 @@ module _ (X : Setting) (wanted room : ℕ) where
       next = record { goals = s .goals; step = let a = s .step in let b = at .next .step in omega arith; links = s .links; settled = s .settled };
     }
 
-  kept-step : (w : List ℕ) (b step i : ℕ) → step ≡ suc i → kept-of w (lay X) b step ≡ step-word w (lay X) step 7
-  unfolding kept-of
-  kept-step w b zero i e = absurd (omega arith)
-  kept-step w b (suc j) i e = refl
+  -- in the query it keeps none, as word 7 of no step says
+  kept-word : (w : List ℕ) (step : ℕ) → kept-of w (lay X) step ≡ step-word w (lay X) step 7
+  unfolding kept-of step-word
+  kept-word w zero = refl
+  kept-word w (suc i) = refl
 
-  kept-query : (w : List ℕ) (b step : ℕ) → step ≡ 0 → kept-of w (lay X) b step ≡ b
-  unfolding kept-of
-  kept-query w b zero e = refl
-  kept-query w b (suc j) e = absurd (omega arith)
+  -- going back from a choice comes to no choice at last, and to the one that a cut keeps
+  chain-end : (w : List ℕ) {s : Store} {u b : ℕ} {cs : List Choice} → ChoicesAre X w s u b cs → OnChain X w b 0
+  chain-end w no-choices = here
+  chain-end w (choices i chain known numbers goal goals less links settled cells trail prior steps older fewer rest) = up i prior (chain-end w rest)
 
-  links-step : (w : List ℕ) (b step i : ℕ) → step ≡ suc i → Links X w b step → OnChain X w b (step-word w (lay X) step 7)
-  links-step w b zero i e l = absurd (omega arith)
-  links-step w b (suc j) i e l = l
+  chain-kept : (w : List ℕ) {s : Store} {u b : ℕ} {cs : List Choice} (step : ℕ) → ChoicesAre X w s u b cs → Links X w b step → OnChain X w b (step-word w (lay X) step 7)
+  unfolding step-word
+  chain-kept w zero ch l = chain-end w ch
+  chain-kept w (suc i) ch l = l
 
-  step-links : (w : List ℕ) (step i : ℕ) → step ≡ suc i → Links X w (step-word w (lay X) step 7) step
-  step-links w zero i e = tt
-  step-links w (suc j) i e = here
+  step-links : (w : List ℕ) (step : ℕ) → Links X w (step-word w (lay X) step 7) step
+  step-links w zero = tt
+  step-links w (suc i) = here
 
   pub cut-moves : (w : List ℕ) (m : Regs) (h : ℕ) (n : Derivation) (cs : List Choice) (d : Done) {r : Due} {v : List ℕ} → MovesCut (X .file) (lay X) m w r v → AtIs X w m [] (with-goals (cut-to h ∷ n .goals) n) cs → Fair X n cs → m .units ≡ d .units
       → DueIs X v wanted room d r (go-on (X .rules) (X .limits) wanted room n (keep h cs) d)
@@ -100,23 +102,10 @@ module _ (X : Setting) (wanted room : ℕ) where
   cut-moves w m h n cs d {r} {v} (cuts g) at fair un = go (goals-first X w (at .run .holds .base .tabled) (at .next .goals) (at .next .settled))
     where
       go : First X w (at .run .holds .base .tabled) (m .next .place .0) (m .next .step) (cut-to h ∷ n .goals) → DueIs X v wanted room d r (go-on (X .rules) (X .limits) wanted room n (keep h cs) d)
-      go (a-cut k i z hi pr al ga) =
-          let c : kept-of w (lay X) (m .choice) (m .next .step) ≡ step-word w (lay X) (m .next .step) 7 = kept-step w (m .choice) (m .next .step) i z in
-          let ch = kept-choices w (links-step w (m .choice) (m .next .step) i z (at .next .links)) hi (at .run .choices) in
+      go (a-cut k hi pr al ga) =
+          let c : kept-of w (lay X) (m .next .step) ≡ step-word w (lay X) (m .next .step) 7 = kept-word w (m .next .step) in
+          let ch = kept-choices w (chain-kept w (m .next .step) (at .run .choices) (at .next .links)) hi (at .run .choices) in
           let st = at .next .step in
           goes-on X wanted room w (cut-regs (X .file) w (lay X) m) n (keep h cs) d
-          (cut-at w m (cut-to h) n cs at h (rw c (ch .0)) (rw c (omega arith)) (rest-at w m (cut-to h) n cs at _ al ga (subst (λ (b : ℕ). Links X w b (m .next .step)) (sym c) (step-links w (m .next .step) i z))))
+          (cut-at w m (cut-to h) n cs at h (rw c (ch .0)) (rw c (omega arith)) (rest-at w m (cut-to h) n cs at _ al ga (subst (λ (b : ℕ). Links X w b (m .next .step)) (sym c) (step-links w (m .next .step)))))
           (fair-keep h n cs fair) un g
-
-  pub idle-moves : (w : List ℕ) (m : Regs) (n : Derivation) (cs : List Choice) (d : Done) {r : Due} {v : List ℕ} → MovesCut (X .file) (lay X) m w r v → AtIs X w m [] (with-goals (cut-idle ∷ n .goals) n) cs → Fair X n cs → m .units ≡ d .units
-      → DueIs X v wanted room d r (go-on (X .rules) (X .limits) wanted room n (keep (length cs) cs) d)
-  unfolding cut-regs with-goals
-  idle-moves w m n cs d {r} {v} (cuts g) at fair un = go (goals-first X w (at .run .holds .base .tabled) (at .next .goals) (at .next .settled))
-    where
-      go : First X w (at .run .holds .base .tabled) (m .next .place .0) (m .next .step) (cut-idle ∷ n .goals) → DueIs X v wanted room d r (go-on (X .rules) (X .limits) wanted room n (keep (length cs) cs) d)
-      go (an-idle k z al ga) =
-          let c : kept-of w (lay X) (m .choice) (m .next .step) ≡ m .choice = kept-query w (m .choice) (m .next .step) z in
-          goes-on X wanted room w (cut-regs (X .file) w (lay X) m) n (keep (length cs) cs) d
-          (cut-at w m cut-idle n cs at (length cs) (rw c (subst (ChoicesAre X w (n .store) (n .cells) (m .choice)) (sym (keep-all (length cs) cs (omega arith))) (at .run .choices))) (rw c (at .run .choice))
-          (rest-at w m cut-idle n cs at _ al ga (subst (λ (b : ℕ). Links X w b (m .next .step)) (sym c) (at .next .links))))
-          (fair-keep (length cs) n cs fair) un g

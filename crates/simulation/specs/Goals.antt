@@ -12,7 +12,7 @@ use borrow.Author.Tests.{eq-eqb, ne-eqb}
 use Rattle.meaning.specs.Terms.{Term, var, Terms, insts, from}
 use Rattle.meaning.specs.Rules.{Call, Goal, call, cut}
 use Rattle.meaning.specs.Reading.{byte, goal-due}
-use Rattle.meaning.specs.Moves.{Open, goal, cut-to, cut-idle, body-goal, query-goal, over}
+use Rattle.meaning.specs.Moves.{Open, goal, cut-to, body-goal, query-goal, over}
 use Rattle.laws.specs.IfLaws.{if-by}
 use Rattle.demands.specs.TermLaws.{insts-var}
 use Rattle.layout.specs.Lengths.{terms-length, goal-length, goals-length}
@@ -22,7 +22,7 @@ use Rattle.layout.specs.Tables.{Tabled}
 use Rattle.search.specs.Search.{step-word, step-next, settled-next}
 use Rattle.search.specs.declared.Next.{Next}
 use Rattle.simulation.specs.Places.{GoalsFrom, whole, later, BodyAt, of-body, of-query}
-use Rattle.simulation.specs.Rep.{Setting, lay, HeightIs, OnChain, here, up, Links, Settled, GoalsAre, in-query, in-body, GoalIs}
+use Rattle.simulation.specs.Rep.{Setting, lay, HeightIs, no-height, OnChain, here, up, Links, Settled, GoalsAre, in-query, in-body, GoalIs}
 use Rattle.simulation.specs.PlaceLaws.{body-stands, query-stands, body-ends, query-ends, body-after, query-after}
 
 pub goals-later : {p q : ℕ} {g : Goal} {gs hs : List Goal} → GoalsFrom p gs q (g ∷ hs) → GoalsFrom p gs (q + goal-length g) hs
@@ -45,8 +45,7 @@ module _ (X : Setting) (w : List ℕ) (tabled : Tabled (length (X .file)) (X .ru
   pub data First (p f : ℕ) : List Open → Type 0 where
     no-goal : kind p ≢ 6 → kind p ≢ 7 → f ≡ 0 → First p f []
     a-call : {g : Call} {os : List Open} (len : ℕ) → kind p ≡ 6 → GoalIs X w p (step-word w (lay X) f 5) g → word w (after-at p) ≡ p + len → p + len ≤ length (X .file) → GoalsAre X w (p + len) f os → First p f (goal g ∷ os)
-    a-cut : {h : ℕ} {os : List Open} → kind p ≡ 7 → (i : ℕ) → f ≡ suc i → HeightIs X w (step-word w (lay X) f 7) h → step-word w (lay X) f 7 ≤ i → p + 1 ≤ length (X .file) → GoalsAre X w (p + 1) f os → First p f (cut-to h ∷ os)
-    an-idle : {os : List Open} → kind p ≡ 7 → f ≡ 0 → p + 1 ≤ length (X .file) → GoalsAre X w (p + 1) f os → First p f (cut-idle ∷ os)
+    a-cut : {h : ℕ} {os : List Open} → kind p ≡ 7 → HeightIs X w (step-word w (lay X) f 7) h → step-word w (lay X) f 7 ≤ f → p + 1 ≤ length (X .file) → GoalsAre X w (p + 1) f os → First p f (cut-to h ∷ os)
 
   not-due : (p : ℕ) → goal-due (kind p) ≡ true → kind p ≢ 6 → kind p ≢ 7 → ⊥
   unfolding goal-due
@@ -65,7 +64,7 @@ module _ (X : Setting) (w : List ℕ) (tabled : Tabled (length (X .file)) (X .ru
   goals-first (in-query {p = p} {gs = cut ∷ gs} q) s =
       let h = query-stands X q in
       let e : p + (1 + goals-length gs) ≤ length (X .file) = query-ends X q in
-      an-idle (h .0) refl (omega arith) (in-query (goals-later q))
+      a-cut (h .0) no-height (omega arith) (omega arith) (in-query (goals-later q))
   goals-first (in-body {p = p} i {gs = []} body base high prior less links settled rest) s = let h = body-stands X body in absurd (not-due p s (h .0) (h .1))
   goals-first (in-body {p = p} i {gs = call g ∷ gs} body base high prior less links settled rest) s =
       let h = body-stands X body in
@@ -75,7 +74,7 @@ module _ (X : Setting) (w : List ℕ) (tabled : Tabled (length (X .file)) (X .ru
   goals-first (in-body {p = p} i {gs = cut ∷ gs} body base high prior less links settled rest) s =
       let h = body-stands X body in
       let e : p + (1 + goals-length gs) ≤ length (X .file) = body-ends X body in
-      a-cut (h .0) i refl high prior (omega arith) (in-body i (later-body body) base high prior less links settled rest)
+      a-cut (h .0) high (omega arith) (omega arith) (in-body i (later-body body) base high prior less links settled rest)
 
   -- ---- where they go on
   pub record SettledAt (b f : ℕ) (os : List Open) (x : Next) : Type 0 where

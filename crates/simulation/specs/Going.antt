@@ -8,7 +8,7 @@ use native.Mathlib.Nat.{mod-eq-of-lt}
 use lib.ListN.{length, getD}
 use Rattle.meaning.specs.Rules.{Call}
 use Rattle.meaning.specs.Reading.{two-bytes}
-use Rattle.meaning.specs.Moves.{Open, goal, cut-to, cut-idle, Derivation, Numbered, Choice, choice, Done, clauses-of, over, with-goals, fail, take-goal, go-on}
+use Rattle.meaning.specs.Moves.{Open, goal, cut-to, Derivation, Numbered, Choice, choice, Done, clauses-of, over, with-goals, fail, take-goal, go-on}
 use Rattle.demands.specs.Proofs.{Each, WellCall}
 use Rattle.demands.specs.Order.{each-map, clauses-known}
 use Rattle.demands.specs.Ways.{todo}
@@ -22,9 +22,9 @@ use Rattle.search.specs.declared.Regs.{Regs}
 use Rattle.search.specs.declared.Due.{Due}
 use Rattle.simulation.specs.Rep.{Setting, lay, layout-of, GoalsAre, GoalIs}
 use Rattle.simulation.specs.TableFrames.{tables-room}
-use Rattle.simulation.specs.States.{Fair, AtIs, DueIs, is-try, is-cut, is-idle, is-answer}
+use Rattle.simulation.specs.States.{Fair, AtIs, DueIs, is-try, is-cut, is-answer}
 use Rattle.simulation.specs.Backing.{backs-fail}
-use Rattle.simulation.specs.Goals.{First, no-goal, a-call, a-cut, an-idle, goals-first, SettledAt, settled-is}
+use Rattle.simulation.specs.Goals.{First, no-goal, a-call, a-cut, goals-first, SettledAt, settled-is}
 
 -- a place of the file and a few bytes more do not pass a word
 pub ahead-small : (p n : ℕ) → p + n < 2 ^ 64 → ahead p n ≡ p + n
@@ -105,12 +105,9 @@ module _ (X : Setting) (wanted room : ℕ) where
     first-goes (goal g ∷ os) e (a-call len k gi aw al ga) (Goal-move c j) =
         calls w m len g os n cs d at fair gi aw al ga units _ _ j (clauses-of (g .predicate) 0 (X .rules .clauses)) (numbers (g .predicate))
         (at .run .holds .base .tabled .chains (g .predicate) _ (subst (λ (x : List Open). Each (WellCall (X .rules) (n .cells)) (todo x)) e (fair .good .goals) .0 .arity))
-    first-goes (cut-to h ∷ os) e (a-cut k i z hi pr al ga) (Cut-move c) = is-cut (subst (λ (x : List Open). AtIs X w m [] (record { goals = x; store = n .store; cells = n .cells; steps = n .steps }) cs) e at) units
-    first-goes (cut-to h ∷ os) e (a-cut k i z hi pr al ga) (Answer-move c j) = absurd (c k)
-    first-goes (cut-to h ∷ os) e (a-cut k i z hi pr al ga) (Goal-move c j) = absurd (omega arith)
-    first-goes (cut-idle ∷ os) e (an-idle k z al ga) (Cut-move c) = is-idle (subst (λ (x : List Open). AtIs X w m [] (record { goals = x; store = n .store; cells = n .cells; steps = n .steps }) cs) e at) units
-    first-goes (cut-idle ∷ os) e (an-idle k z al ga) (Answer-move c j) = absurd (c k)
-    first-goes (cut-idle ∷ os) e (an-idle k z al ga) (Goal-move c j) = absurd (omega arith)
+    first-goes (cut-to h ∷ os) e (a-cut k hi pr al ga) (Cut-move c) = is-cut (subst (λ (x : List Open). AtIs X w m [] (record { goals = x; store = n .store; cells = n .cells; steps = n .steps }) cs) e at) units
+    first-goes (cut-to h ∷ os) e (a-cut k hi pr al ga) (Answer-move c j) = absurd (c k)
+    first-goes (cut-to h ∷ os) e (a-cut k hi pr al ga) (Goal-move c j) = absurd (omega arith)
 
     pub goes-on : {r : Due} {v : List ℕ} → GoesOn (X .file) (lay X) m w r v → DueIs X v wanted room d r (go-on (X .rules) (X .limits) wanted room n cs d)
     unfolding go-on

@@ -8,6 +8,7 @@ use mathlib.Core.Option.{some}
 use lib.ListN.{length, getElem?}
 use Rattle.meaning.specs.Terms.{Term}
 use Rattle.meaning.specs.Kinds.{file-limit}
+use Rattle.meaning.specs.Editions.{todays}
 use Rattle.meaning.specs.Rules.{Call, Goal, Rules}
 use Rattle.meaning.specs.Reading.{read, parse, byte, two-bytes, goal-due}
 use Rattle.meaning.specs.Store.{Store, empty, bind}
@@ -102,7 +103,7 @@ module _ (X : Setting) where
 
     -- the open goals from the place p on, in the clause of the step f
     pub data GoalsAre : ℕ → ℕ → List Open → Type 0 where
-      in-query : {p : ℕ} {gs : List Goal} → QueryAt (X .rules) p gs → GoalsAre p 0 (map query-goal gs)
+      in-query : {p : ℕ} {gs : List Goal} → QueryAt (X .rules) p gs → GoalsAre p 0 (map (query-goal (todays .query-keeps)) gs)
       in-body : {p : ℕ} (i : ℕ) {b h : ℕ} {gs : List Goal} {os : List Open} → BodyAt (X .rules) (step-word w lay (suc i) 0) p gs → step-word w lay (suc i) 5 ≡ b → HeightIs (step-word w lay (suc i) 7) h
           → step-word w lay (suc i) 7 ≤ i → step-word w lay (suc i) 4 ≤ i → Links (step-word w lay (suc i) 7) (step-word w lay (suc i) 4) → Settled (step-word w lay (suc i) 3) (step-word w lay (suc i) 4)
           → GoalsAre (step-word w lay (suc i) 3) (step-word w lay (suc i) 4) os → GoalsAre p (suc i) (map (body-goal b h) gs ++ os)

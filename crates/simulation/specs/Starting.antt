@@ -2,14 +2,14 @@
 -- Assumes nothing.
 use Prim.Native.Nat.{ℕ, _+_, _≤_}
 use mathlib.Core.Path.{_≡_, refl, sym, _∙_, subst}
-use mathlib.Core.List.{List, [], map}
+use mathlib.Core.List.{List, []}
 use native.Mathlib.Omega.{arith}
 use borrow.Author.Tests.{eq-eqb, ne-eqb, lt-ltb, le-ltb}
+use Rattle.meaning.specs.Editions.{todays}
 use Rattle.meaning.specs.Outcome.{end-number}
 use Rattle.meaning.specs.declared.End.the-variants.{Wanted, Cells}
-use Rattle.meaning.specs.Store.{empty}
 use Rattle.meaning.specs.Call.{needed}
-use Rattle.meaning.specs.Moves.{Derivation, query-goal, nothing, start}
+use Rattle.meaning.specs.Moves.{Derivation, asked, nothing, start-keeping, start}
 use Rattle.laws.specs.IfLaws.{if-true, if-false}
 use Rattle.demands.specs.GoodFiles.{good-files-are-well-formed}
 use Rattle.demands.specs.Ways.{asked-good}
@@ -29,7 +29,7 @@ use Rattle.simulation.specs.Trying.{given-of}
 
 module _ (X : Setting) (wanted room : ℕ) where
   abbrev n₀ : Derivation
-  n₀ = record { goals = map query-goal (X .rules .query); store = empty; cells = X .rules .variables; steps = [] }
+  n₀ = asked (X .rules) (todays .query-keeps)
 
   abbrev m₀ : Regs
   m₀ = record { cells = X .rules .variables; trail = 0; steps = 0; choice = 0; work = 0; fresh = 0; next = record { place = record { 0 = query-place (X .rules) + 3 }; step = 0 }; units = 0 }
@@ -69,10 +69,10 @@ module _ (X : Setting) (wanted room : ℕ) where
     }
 
     fair-start : Fair X n₀ []
-    fair-start = record { good = asked-good (X .rules) (good-files-are-well-formed (X .file) (X .rules) (X .seen, X .end, X .good)); within = tt; choices = none }
+    fair-start = record { good = asked-good (X .rules) (good-files-are-well-formed (X .file) (X .rules) (X .seen, X .end, X .good)) (todays .query-keeps); within = tt; choices = none }
 
   pub start-comes : {w u : List ℕ} {r : Due} → Base X w → Starts (X .file) (given-of X) wanted w r u → DueIs X u wanted room nothing r (start (X .rules) (X .limits) wanted room)
-  unfolding start nothing end-number given-of start-regs
+  unfolding start-keeping nothing end-number given-of start-regs
   start-comes {w} b (none-wanted e) = subst (DueIs X w wanted room nothing _) (sym (if-true _ _ _ (eq-eqb wanted 0 e))) (is-over Wanted refl)
   start-comes {w} b (few-cells e l) =
       let q = rules-stand X .query-variables in

@@ -7,7 +7,7 @@ use lib.ListN.{length}
 use Rattle.meaning.specs.Rules.{Call}
 use Rattle.meaning.specs.Outcome.{end-number}
 use Rattle.meaning.specs.Store.{Store}
-use Rattle.meaning.specs.Moves.{Open, cut-to, cut-idle, Derivation, Numbered, Choice, choice, Pair, trying, taking, cutting, Done, State, ended, due, with-goals, answering}
+use Rattle.meaning.specs.Moves.{Open, cut-to, Derivation, Numbered, Choice, choice, Pair, trying, taking, cutting, Done, State, ended, due, with-goals, answering}
 use Rattle.meaning.specs.declared.End.{End}
 use Rattle.demands.specs.Proofs.{Each}
 use Rattle.demands.specs.StoreLaws.{Free, Sound}
@@ -86,6 +86,5 @@ module _ (X : Setting) (w : List ℕ) where
       is-try : {t : Trial} {m : Regs} {k : Numbered} {ks : List Numbered} {g : Call} {n : Derivation} {cs : List Choice} → TryIs t m k ks g n cs → m .units ≡ d .units → DueIs (Try m t) (due (trying k (choice ks g n) cs) d)
       is-pair : {m : Regs} {p : Pair} {ps : List Pair} {n : Derivation} {cs : List Choice} → AtIs m (p ∷ ps) n cs → Unmentioned (X .rules .functions) (m .fresh) (n .store) (p ∷ ps) → m .units ≡ d .units → DueIs (Pair-due m) (due (taking p ps n cs) d)
       is-cut : {m : Regs} {h : ℕ} {n : Derivation} {cs : List Choice} → AtIs m [] (with-goals (cut-to h ∷ n .goals) n) cs → m .units ≡ d .units → DueIs (Cut m) (due (cutting h n cs) d)
-      is-idle : {m : Regs} {n : Derivation} {cs : List Choice} → AtIs m [] (with-goals (cut-idle ∷ n .goals) n) cs → m .units ≡ d .units → DueIs (Cut m) (due (cutting (length cs) n cs) d)
       is-answer : {m : Regs} (n : Derivation) (cs : List Choice) → AtIs m [] n cs → Fair X n cs → n .goals ≡ [] → m .units ≡ d .units → DueIs (Answer m) (answering (X .rules) (X .limits) wanted room n cs d)
       is-over : (e : End) {m : Regs} → m .units ≡ d .units → DueIs (Over e m) (ended (end-number e) d)

@@ -1,4 +1,4 @@
-use Rattle.search.proofs.Laws.{kept-all, kept-before}
+use Rattle.search.proofs.Laws.{kept-none, kept-before}
 use borrow.Author.Needs.{needs}
 use Rattle.search.proofs.kept.Statement.{statement}
 use Rattle.search.proofs.kept.Tie as tie
@@ -6,17 +6,17 @@ use Rattle.search.proofs.kept.Reads as reads
 use Rattle.search.proofs.kept.Lts as lts
 use Rattle.search.proofs.read_step.Reads as read-step-reads
 
--- src/lib.rt:364:9
-returns : tie.Need-returns
-returns c = search kept-all
-
--- src/lib.rt:366:5
+-- src/lib.rt:384:9
 read-step-requires : tie.Need-read-step-requires
 read-step-requires c κs = search needs
 
--- src/lib.rt:360:1
+-- src/lib.rt:378:1
+returns : tie.Need-returns
+returns c = search kept-none
+
+-- src/lib.rt:378:1
 returns-2 : tie.Need-returns-2
 returns-2 c = search kept-before
 
 pub kept-spec : {M : Type 1} → statement M
-kept-spec = tie.close (tie.spec returns read-step-requires returns-2)
+kept-spec = tie.close (tie.spec read-step-requires returns returns-2)
