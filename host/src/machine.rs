@@ -304,13 +304,11 @@ impl<W: Watch> Run<'_, W> {
     }
 
     /// A cut drops the untried clauses of the goal whose clause holds it, and
-    /// of every goal called since; in the query it only costs its unit.
+    /// of every goal called since; in the query those of every goal.
     fn cut(&mut self) -> Result<(), End> {
         spend(&mut self.units_left)?;
-        if self.open.step != QUERY {
-            let choices = self.step().choices as usize;
-            self.machine.choices.truncate(choices);
-        }
+        let choices = self.step().choices as usize;
+        self.machine.choices.truncate(choices);
         self.open.goal += 1;
         Ok(())
     }

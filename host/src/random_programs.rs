@@ -115,13 +115,13 @@ fn random_tree(random: &mut Random, program: &Program, variables: usize, levels:
     Tree::Applied(function as u16, (0..arity).map(inner).collect())
 }
 
-/// Puts a few cuts anywhere: in bodies and in the query.
+/// Puts a few cuts anywhere: in bodies and, every third or more, in the query.
 pub fn add_cuts(random: &mut Random, program: &mut Program) {
     for _ in 0..random.between(1, 3) {
         let which = random.below(program.clauses.len() + 1);
         let goals = match program.clauses.get_mut(which) {
-            Some(clause) => &mut clause.body,
-            None => &mut program.query,
+            Some(clause) if random.percent(67) => &mut clause.body,
+            _ => &mut program.query,
         };
         if goals.len() < GOALS {
             goals.insert(random.between(0, goals.len()), TreeGoal::Cut);

@@ -1,5 +1,5 @@
-//! The generator: the same case for the same seed, and every end and refusal
-//! and large rule sets often enough.
+//! The generator: the same case for the same seed, and every end and refusal,
+//! large rule sets and cuts in queries often enough.
 
 mod common;
 
@@ -9,7 +9,7 @@ use common::*;
 use second::call::{Case, Memory, Outcome};
 use second::damage::{counts, places};
 use second::generate::case;
-use second::record::CLAUSE;
+use second::record::{CLAUSE, CUT, QUERY};
 
 #[test]
 fn a_seed_gives_one_case_and_other_seeds_others() {
@@ -80,6 +80,43 @@ fn larger_rule_sets_than_document_01_allowed_are_run() {
         assert!(larger.runs >= runs, "{larger:?}");
         assert!(larger.answers >= answers, "{larger:?}");
     }
+}
+
+/// The file with the cuts of its query left out, if there are any.
+fn without_query_cuts(file: &[u8]) -> Option<Vec<u8>> {
+    let places = places(file);
+    let query = places.iter().position(|&place| file[place] == QUERY)?;
+    let (query, goals) = (places[query], &places[query + 1..]);
+    let mut shorter = file.to_vec();
+    for &goal in goals.iter().rev().filter(|&&goal| file[goal] == CUT) {
+        shorter.remove(goal);
+        shorter[query + 2] -= 1;
+    }
+    (shorter.len() < file.len()).then_some(shorter)
+}
+
+#[test]
+fn cuts_in_queries_are_made_and_drop_answers() {
+    let (mut made, mut dropped, mut none_dropped) = (0, 0, 0);
+    for seed in 0..50_000 {
+        let case = case(seed);
+        let (Outcome::Ended { units: 1.., .. }, _) = called(&case) else {
+            continue;
+        };
+        let Some(without) = without_query_cuts(&case.file) else {
+            continue;
+        };
+        made += 1;
+        let (outcome, out) = run(&case.file, SETTINGS);
+        let (_, all) = run(&without, SETTINGS);
+        if matches!(outcome, Outcome::Ended { end: 20, .. }) {
+            dropped += usize::from(all.len() > out.len());
+            none_dropped += usize::from(all == out);
+        }
+    }
+    assert!(made >= 3_000, "{made}");
+    assert!(dropped >= 500, "{dropped}");
+    assert!(none_dropped >= 2_000, "{none_dropped}");
 }
 
 #[test]

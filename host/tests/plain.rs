@@ -13,8 +13,8 @@ use second::examples;
 use second::random::Random;
 use second::random_programs::*;
 
-/// An open goal, and how many choices a cut there leaves; none in the query.
-type Open = (TreeGoal, Option<usize>);
+/// An open goal, and how many choices a cut there leaves.
+type Open = (TreeGoal, usize);
 
 #[derive(Clone)]
 struct State {
@@ -107,7 +107,7 @@ impl Plain<'_> {
         let goals = self.program.query.iter();
         let mut state = State {
             open: goals
-                .map(|goal| (use_of_goal(goal, &names, 0), None))
+                .map(|goal| (use_of_goal(goal, &names, 0), 0))
                 .collect(),
             cells: vec![None; names.len()],
             steps: Vec::new(),
@@ -121,7 +121,7 @@ impl Plain<'_> {
                 }
                 Some((TreeGoal::Cut, barrier)) => {
                     self.spend()?;
-                    self.choices.truncate(barrier.unwrap_or(self.choices.len()));
+                    self.choices.truncate(barrier);
                     state.open.pop_front();
                     Some(state)
                 }
@@ -181,7 +181,7 @@ impl Plain<'_> {
             return Ok(None);
         }
         next.open.pop_front();
-        let barrier = Some(self.choices.len());
+        let barrier = self.choices.len();
         for goal in clause.body.iter().rev() {
             next.open
                 .push_front((use_of_goal(goal, &names, base), barrier));

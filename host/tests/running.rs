@@ -242,12 +242,35 @@ fn a_cut_as_last_goal_of_a_last_goal_is_its_own_clauses() {
 }
 
 #[test]
-fn a_cut_in_the_query_only_costs_its_unit() {
-    assert_eq!(steps("p(a). p(b). ?- p(X), !."), [[0], [1]]);
-    assert_eq!(text("p(a). p(b). ?- p(X), !.", SETTINGS), (20, 2, 6));
+fn a_cut_in_the_query_drops_all_untried_clauses() {
+    let rules = "p(a). p(b). q(X) :- p(X). q(c).";
+    let ended = |query| text(&format!("{rules} ?- {query}."), SETTINGS);
+    let all = |query| steps(&format!("{rules} ?- {query}."));
+    assert_eq!(all("p(X), !"), [[0]]);
+    assert_eq!(ended("p(X), !"), (20, 1, 2 + 1));
+    // Of the goals below a goal too, and of every goal before it.
+    assert_eq!(all("q(X), !"), [[2, 0]]);
+    assert_eq!(all("p(X), q(Y), p(Z), !"), [[0, 2, 0, 0]]);
+    // What fails behind it goes back to nothing.
+    assert_eq!(ended("p(X), !, p(c)"), (20, 0, 2 + 1 + 2 * 2));
+    // It costs its unit where there is nothing to drop.
+    assert_eq!(ended("!, p(X)"), (20, 2, 1 + 2 * 2));
     assert_eq!(text("?- !, !.", SETTINGS), (20, 1, 2));
     let budget = |budget| Settings { budget, ..SETTINGS };
     assert_eq!(text("?- !, !.", budget(1)), (22, 0, 1));
+}
+
+#[test]
+fn goals_behind_a_cut_in_the_query_leave_choices_again() {
+    let rules = "p(a). p(b). p(c).";
+    let all = |query| steps(&format!("{rules} ?- {query}."));
+    assert_eq!(all("p(X), !, p(Y)"), [[0, 0], [0, 1], [0, 2]]);
+    assert_eq!(
+        all("p(X), !, p(Y), !, p(Z)"),
+        [[0, 0, 0], [0, 0, 1], [0, 0, 2]]
+    );
+    let callee = "q(X) :- p(X), !. p(a). p(b). ?- q(X), p(Y), !, q(Z), p(W).";
+    assert_eq!(steps(callee), [[0, 1, 1, 0, 1, 1], [0, 1, 1, 0, 1, 2]]);
 }
 
 #[test]
