@@ -6,6 +6,7 @@ pub mod Larger
 pub mod Begins
 pub mod GoodFiles
 pub mod Faults
+pub mod Along
 pub mod Rooms
 pub mod TermLaws
 pub mod StoreLaws

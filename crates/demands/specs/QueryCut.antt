@@ -3,14 +3,14 @@
 -- Assumes nothing.
 use Prim.Native.Nat.{ℕ, _≤_}
 use mathlib.Core.Path.{_≡_}
-use mathlib.Core.List.{List, []}
+use mathlib.Core.List.{List, [], _∷_, _++_}
 use Rattle.meaning.specs.Editions.{Edition, document-01, todays, keeping}
-use Rattle.meaning.specs.Rules.{Rules}
+use Rattle.meaning.specs.Rules.{Goal, cut, Rules}
 use Rattle.meaning.specs.Moves.{Limits, Derivation, Choice, cutting, Done, due, spend, go-on, move, start-keeping}
 use Rattle.meaning.specs.Call.{Result}
 use Rattle.meaning.specs.Embedded.{embedded-by, embedded}
 use Rattle.demands.specs.Proofs.{NoCut}
-use Rattle.demands.specs.Demands.{SaysWithin, LeavesBy, Leaves}
+use Rattle.demands.specs.Demands.{SaysWithin, LeavesBy, Leaves, Ends}
 use Rattle.demands.specs.Stops.{ReachedFrom}
 
 -- "it drops all untried clauses of every goal called since the query began. It still costs one unit": its unit being spent, the search goes
@@ -25,6 +25,10 @@ abbrev pub DoesNothingElse : Type 0
 DoesNothingElse = (R : Rules) (L : Limits) (wanted room budget : ℕ) → L .steps ≤ 60_000 → (n : Derivation) (cs : List Choice) (d : Done)
     → ReachedFrom R L wanted room (start-keeping R L wanted room (document-01 .query-keeps)) budget (due (cutting (document-01 .query-keeps) n cs) d)
     → move R L wanted room (cutting (document-01 .query-keeps) n cs) (spend d) ≡ go-on R L wanted room n cs (spend d)
+
+-- A query whose last goal is a cut has at most one answer
+abbrev pub AtMostOne : Type 0
+AtMostOne = (R : Rules) (gs : List Goal) → R .query ≡ gs ++ cut ∷ [] → (e answers units : ℕ) (bytes : List ℕ) → Ends R e answers units bytes → answers ≤ 1
 
 -- A file whose query holds no cut: every call with it leaves the same result, scratch and output, however many choices a cut in a query
 -- keeps, and the embedded form has the same result

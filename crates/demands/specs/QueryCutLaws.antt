@@ -2,27 +2,24 @@
 -- Assumes nothing.
 use Prim.Native.Nat.{ℕ, zero, suc, _+_, _-_, _≤_, _<_, min}
 use mathlib.Core.Path.{_≡_, refl, ap, sym, _∙_}
-use mathlib.Core.Bool.{not}
-use mathlib.Core.List.{List, [], _∷_, _++_, map}
+use mathlib.Core.Logic.{_⊎_, inl, inr}
+use mathlib.Core.List.{List, [], _∷_, _++_, map, append-assoc, map-append}
 use native.Mathlib.Omega.{arith}
-use lib.Dec.{ltb, eqb}
 use lib.ListN.{length, drop, length-append}
-use borrow.Author.Tests.{ltb-false}
 use Rattle.meaning.specs.Editions.{Edition, document-01, todays, keeping}
-use Rattle.meaning.specs.Terms.{Term, var, app}
-use Rattle.meaning.specs.Rules.{Goal, call, cut, Rules}
-use Rattle.meaning.specs.Reading.{read, parse-within}
-use Rattle.meaning.specs.Answers.{Answer, Fit, fits, stops}
-use Rattle.meaning.specs.Moves.{Limits, Open, goal, cut-to, Derivation, Numbered, Choice, choice, Pair, Move, trying, taking, cutting, Done, State, ended, due}
-use Rattle.meaning.specs.Moves.{query-goal, asked, pairs, with-goals, with-binding, with-step, spend, keep, fail, answered, put-out, answering, take-goal, go-on, matching, binding, compared, take-pair, try-head, move, start-keeping}
-use Rattle.meaning.specs.Call.{run-read, result-by, result}
+use Rattle.meaning.specs.Rules.{Call, Goal, call, cut, Rules}
+use Rattle.meaning.specs.Answers.{Answer}
+use Rattle.meaning.specs.Moves.{Limits, Open, goal, cut-to, Derivation, Numbered, Choice, choice, cutting, Done, due}
+use Rattle.meaning.specs.Moves.{nothing, spend, list, body-goal, query-goal, with-goals, with-binding, with-step, keep, answer, go-on, move, start-keeping, start, run}
+use Rattle.meaning.specs.Call.{ending, run-read, result-by, result}
 use Rattle.meaning.specs.Embedded.{embedded-limits, embedded-scratch, room-limit, embedded-in, embedded-by}
-use Rattle.laws.specs.IfLaws.{if-by}
-use Rattle.demands.specs.Proofs.{NoCut}
+use Rattle.demands.specs.Proofs.{Each, NoCut}
 use Rattle.demands.specs.Demands.{SaysWithin}
-use Rattle.demands.specs.Order.{keep-all}
-use Rattle.demands.specs.Stops.{ReachedFrom, started, moved}
-use Rattle.demands.specs.QueryCut.{DropsAll, DoesNothingElse, SameCalls, SameEmbedded, Settled, SettledEmbedded}
+use Rattle.demands.specs.Order.{each-drop, keep-all}
+use Rattle.demands.specs.Stops.{ReachedFrom}
+use Rattle.demands.specs.Along.{Along, reached-holds, ends-over}
+use Rattle.demands.specs.QueryCut.{DropsAll, DoesNothingElse, AtMostOne, SameCalls, SameEmbedded, Settled, SettledEmbedded}
+use Rattle.demands.specs.Theorems.{result-ran}
 use Rattle.demands.specs.LargerLaws.{accepted-before, same-result as larger-result, same-embedded as larger-embedded}
 
 -- ---- no choice is kept
@@ -56,85 +53,150 @@ piled-drop (suc m) u [] p = tt
 piled-drop (suc m) u (choice ks g n ∷ cs) p = let l = p .0 in piled-drop m u cs (piled-more (length (n .steps)) u cs (omega arith) (p .1))
 
 module _ (R : Rules) (L : Limits) (wanted room : ℕ) where
-  -- at a derivation; in a state
+  -- at a derivation; going back, with the steps there were
   abbrev Few : Derivation → List Choice → Type 0
   Few n cs = (length (n .steps) ≤ L .steps) × Piled (length (n .steps)) cs
 
-  abbrev FewIn : State → Type 0
-  FewIn (ended e d) = Unit {0}
-  FewIn (due (trying k (choice ks g n) cs) d) = Few n cs
-  FewIn (due (taking p ps n cs) d) = Few n cs
-  FewIn (due (cutting h n cs) d) = Few n cs
+  abbrev FewBack : List Choice → Type 0
+  FewBack cs = (u : ℕ) × (u ≤ L .steps + 1) × Piled u cs
 
-  fail-few : (u : ℕ) (cs : List Choice) (d : Done) → u ≤ L .steps + 1 → Piled u cs → FewIn (fail cs d)
-  unfolding fail
-  fail-few u [] d l p = tt
-  fail-few u (choice [] g n ∷ cs) d l p = let m = p .0 in fail-few (length (n .steps)) cs d (omega arith) (p .1)
-  fail-few u (choice (k ∷ ks) g n ∷ cs) d l p = let m = p .0 in (omega arith, p .1)
+  few : Along R L wanted room
+  unfolding with-goals with-binding with-step keep
+  few = record {
+    At = λ n cs d. Few n cs;
+    Back = λ cs d. FewBack cs;
+    Over = λ e d. Unit {0};
+    goes-back = λ n cs d f. let l = f .0 in (length (n .steps), omega arith, f .1);
+    passes-over = λ g n cs d b. let l = b .1 in let m = b .2 .0 in (length (n .steps), omega arith, b .2 .1);
+    no-more = λ d b. tt;
+    stops-at = λ cs d e z b. tt;
+    calls = λ g gs n cs d e f. let l = f .0 in (length (n .steps) + 1, omega arith, (omega arith, f .1));
+    enters = λ k ks g n cs d l b. let m = length-append (n .steps) (k .number ∷ []) in (omega arith, (omega arith, b .2 .1));
+    binds = λ x t n cs d f. f;
+    cuts = λ h gs n cs d e f. (f .0, piled-drop (length cs - h) (length (n .steps)) cs (f .1));
+    answers = λ n cs d q e f. let l = f .0 in (length (n .steps), omega arith, f .1);
+    spends-at = λ n cs d f. f;
+    spends-back = λ cs d b. b;
+  }
 
-  back-few : (n : Derivation) (cs : List Choice) (d : Done) → Few n cs → FewIn (fail cs d)
-  back-few n cs d f = let l = f .0 in fail-few (length (n .steps)) cs d (omega arith) (f .1)
-
-  answered-few : (n : Derivation) (cs : List Choice) (d : Done) → Few n cs → FewIn (answered R L wanted room cs d)
-  unfolding answered
-  answered-few n cs d f = if-by FewIn _ (λ e. tt) (λ e. back-few n cs d f)
-
-  put-out-few : (r : Fit) (a : Answer) (n : Derivation) (cs : List Choice) (d : Done) → Few n cs → FewIn (put-out R L wanted room r a cs d)
-  unfolding put-out
-  put-out-few fits a n cs d f = answered-few n cs _ f
-  put-out-few (stops e) a n cs d f = tt
-
-  take-goal-few : (gs : List Open) (n : Derivation) (cs : List Choice) (d : Done) → Few n cs → FewIn (take-goal R L wanted room gs n cs d)
-  unfolding take-goal answering with-goals
-  take-goal-few [] n cs d f = put-out-few _ _ n cs d f
-  take-goal-few (goal g ∷ gs) n cs d f = let l = f .0 in fail-few (length (n .steps) + 1) _ d (omega arith) (omega arith, f .1)
-  take-goal-few (cut-to h ∷ gs) n cs d f = f
-
-  matching-few : (ps : List Pair) (n : Derivation) (cs : List Choice) (d : Done) → Few n cs → FewIn (matching R L wanted room ps n cs d)
-  unfolding matching go-on
-  matching-few [] n cs d f = take-goal-few (n .goals) n cs d f
-  matching-few (p ∷ ps) n cs d f = f
-
-  binding-few : (x : ℕ) (t : Term) (ps : List Pair) (n : Derivation) (cs : List Choice) (d : Done) → Few n cs → FewIn (binding R L wanted room x t ps n cs d)
-  unfolding binding with-binding
-  binding-few x t ps n cs d f = if-by FewIn _ (λ e. back-few n cs d f) (λ e. matching-few ps (with-binding x t n) cs d f)
-
-  compared-few : (t u : Term) (ps : List Pair) (n : Derivation) (cs : List Choice) (d : Done) → Few n cs → FewIn (compared R L wanted room t u ps n cs d)
-  unfolding compared
-  compared-few (var x) (var y) ps n cs d f = if-by FewIn _ (λ e. matching-few ps n cs d f) (λ e. binding-few y (var x) ps n cs d f)
-  compared-few (app g ts) (var y) ps n cs d f = binding-few y (app g ts) ps n cs d f
-  compared-few (var x) (app h us) ps n cs d f = binding-few x (app h us) ps n cs d f
-  compared-few (app g ts) (app h us) ps n cs d f = if-by FewIn _ (λ e. back-few n cs d f) (λ e. if-by FewIn _ (λ l. tt) (λ l. matching-few (pairs ts us ++ ps) n cs d f))
-
-  try-head-few : (k : Numbered) (c : Choice) (cs : List Choice) (d : Done) → FewIn (due (trying k c cs) d) → FewIn (try-head R L wanted room k c cs d)
-  unfolding try-head with-step
-  try-head-few k (choice ks g n) cs d f =
-      if-by FewIn _ (λ e. tt) (λ e. if-by FewIn _ (λ l. tt) (λ l.
-      let few : length (n .steps) + 1 ≤ L .steps = ltb-false _ _ l in
-      let more = length-append (n .steps) (k .number ∷ []) in
-      matching-few _ (with-step k (length cs) n) (choice ks g n ∷ cs) d (omega arith, (omega arith, f .1))))
-
-  move-few : (m : Move) (d : Done) → FewIn (due m d) → FewIn (move R L wanted room m (spend d))
-  unfolding move take-pair go-on keep
-  move-few (trying k (choice ks g n) cs) d f = try-head-few k (choice ks g n) cs (spend d) f
-  move-few (taking p ps n cs) d f = compared-few _ _ ps n cs (spend d) f
-  move-few (cutting h n cs) d f = take-goal-few (n .goals) n (keep h cs) (spend d) (f .0, piled-drop (length cs - h) (length (n .steps)) cs (f .1))
-
-  start-few : (h : ℕ) → FewIn (start-keeping R L wanted room h)
-  unfolding start-keeping go-on
-  start-few h = if-by FewIn _ (λ e. tt) (λ e. if-by FewIn _ (λ l. tt) (λ l. take-goal-few _ (asked R h) [] _ (omega arith, tt)))
-
-  reached-few : (h budget : ℕ) {s : State} → ReachedFrom R L wanted room (start-keeping R L wanted room h) budget s → FewIn s
-  reached-few h budget started = start-few h
-  reached-few h budget (moved {m = m} {d = d} r l) = move-few m d (reached-few h budget r)
+  pub few-choices : (h budget j : ℕ) (n : Derivation) (cs : List Choice) (d : Done)
+      → ReachedFrom R L wanted room (start-keeping R L wanted room h) budget (due (cutting j n cs) d) → length cs ≤ L .steps
+  unfolding few with-goals
+  few-choices h budget j n cs d r =
+      let f = reached-holds R L wanted room few h budget (omega arith, tt) r in
+      let l = f .0 in
+      let c = piled-few (length (n .steps)) cs (f .1) in
+      omega arith
 
 pub does-nothing-else : DoesNothingElse
 unfolding move
 does-nothing-else R L wanted room budget s n cs d r =
-    let f = reached-few R L wanted room (document-01 .query-keeps) budget r in
-    let l = f .0 in
-    let c = piled-few (length (n .steps)) cs (f .1) in
+    let l = few-choices R L wanted room (document-01 .query-keeps) budget (document-01 .query-keeps) n cs d r in
     ap (λ (x : List Choice). go-on R L wanted room n x (spend d)) (keep-all (document-01 .query-keeps) cs (omega arith))
+
+-- ---- a query that ends with a cut
+-- the last of the open goals is a cut that keeps no choice
+abbrev LastCut : List Open → Type 0
+LastCut gs = (os : List Open) × (gs ≡ os ++ cut-to 0 ∷ [])
+
+abbrev LastCutOf : Choice → Type 0
+LastCutOf (choice ks g n) = LastCut (n .goals)
+
+-- it is still open, wherever the search may go, and nothing is listed; or it has been made, and what is listed comes of its derivation
+data Waiting : List Open → List Choice → List Answer → Type 0 where
+  open-yet : {gs : List Open} {cs : List Choice} → LastCut gs → Each LastCutOf cs → Waiting gs cs []
+  made : Waiting [] [] []
+
+data WaitingBack : List Choice → List Answer → Type 0 where
+  open-still : {cs : List Choice} → Each LastCutOf cs → WaitingBack cs []
+  no-choice : {ls : List Answer} → length ls ≤ 1 → WaitingBack [] ls
+
+waiting-few : {cs : List Choice} {ls : List Answer} → WaitingBack cs ls → length ls ≤ 1
+waiting-few (open-still w) = omega arith
+waiting-few (no-choice l) = l
+
+-- behind the first goal the cut is still the last, unless it is the first
+last-behind : (o : Open) (gs os : List Open) → o ∷ gs ≡ os ++ cut-to 0 ∷ [] → LastCut gs ⊎ ((o ≡ cut-to 0) × (gs ≡ []))
+last-behind o gs [] e = inr (cc, cc)
+last-behind o gs (p ∷ os) e = inl (os, cc)
+
+never-last : (os : List Open) → [] ≡ os ++ cut-to 0 ∷ [] → ⊥
+never-last [] e = let z : _≡_ {A = ℕ} 0 1 = cc in omega arith
+never-last (o ∷ os) e = let z : _≡_ {A = ℕ} 0 1 = cc in omega arith
+
+waiting-back : {gs : List Open} {cs : List Choice} {ls : List Answer} → Waiting gs cs ls → WaitingBack cs ls
+waiting-back (open-yet l w) = open-still w
+waiting-back made = no-choice {ls = []} (omega arith)
+
+waiting-over : {ks : List Numbered} {g : Call} {n : Derivation} {cs : List Choice} {ls : List Answer} → WaitingBack (choice ks g n ∷ cs) ls → WaitingBack cs ls
+waiting-over (open-still w) = open-still (w .1)
+
+waiting-called : (ks : List Numbered) (g : Call) (gs hs : List Open) (n : Derivation) {cs : List Choice} {ls : List Answer} → hs ≡ goal g ∷ gs → Waiting hs cs ls → WaitingBack (choice ks g (with-goals gs n) ∷ cs) ls
+unfolding with-goals
+waiting-called ks g gs hs n {cs = cs} e (open-yet (os, q) w) = go (last-behind (goal g) gs os (sym e ∙ q))
+  where
+    go : LastCut gs ⊎ ((goal g ≡ cut-to 0) × (gs ≡ [])) → WaitingBack (choice ks g (with-goals gs n) ∷ cs) []
+    go (inl l) = open-still {cs = choice ks g (with-goals gs n) ∷ cs} (l, w)
+    go (inr (z, y)) = let x : _≡_ {A = ℕ} 0 1 = cc in absurd (omega arith)
+waiting-called ks g gs hs n e made = let x : _≡_ {A = ℕ} 0 1 = cc in absurd (omega arith)
+
+waiting-entered : (k : Numbered) (ks : List Numbered) (g : Call) (n : Derivation) (h : ℕ) {cs : List Choice} {ls : List Answer} → WaitingBack (choice (k ∷ ks) g n ∷ cs) ls → Waiting (with-step k h n .goals) (choice ks g n ∷ cs) ls
+unfolding with-step
+waiting-entered k ks g n h {cs = cs} (open-still ((os, q), w)) =
+    open-yet {cs = choice ks g n ∷ cs} (map (body-goal (n .cells) h) (k .clause .body) ++ os, ap (map (body-goal (n .cells) h) (k .clause .body) ++_) q ∙ sym (append-assoc (map (body-goal (n .cells) h) (k .clause .body)) os (cut-to 0 ∷ []))) ((os, q), w)
+
+waiting-cut : (h : ℕ) (gs hs : List Open) {cs : List Choice} {ls : List Answer} → hs ≡ cut-to h ∷ gs → Waiting hs cs ls → Waiting gs (keep h cs) ls
+unfolding keep
+waiting-cut h gs hs {cs = cs} e (open-yet (os, q) w) = go (last-behind (cut-to h) gs os (sym e ∙ q))
+  where
+    go : LastCut gs ⊎ ((cut-to h ≡ cut-to 0) × (gs ≡ [])) → Waiting gs (drop (length cs - h) cs) []
+    go (inl l) = open-yet l (each-drop LastCutOf (length cs - h) cs w)
+    go (inr (z, y)) =
+        let none : h ≡ 0 = cc in
+        let all : length cs - h ≡ length cs = omega arith in
+        rw (y, all, drop-all cs) made
+waiting-cut h gs hs e made = let x : _≡_ {A = ℕ} 0 1 = cc in absurd (omega arith)
+
+waiting-listed : (gs : List Open) (a : Answer) {cs : List Choice} {ls : List Answer} → gs ≡ [] → Waiting gs cs ls → WaitingBack cs (ls ++ a ∷ [])
+waiting-listed gs a e (open-yet (os, q) w) = absurd (never-last os (sym e ∙ q))
+waiting-listed gs a e made = no-choice {ls = a ∷ []} (omega arith)
+
+module _ (R : Rules) (L : Limits) (wanted room : ℕ) where
+  once : Along R L wanted room
+  unfolding with-goals with-binding list spend
+  once = record {
+    At = λ n cs d. Waiting (n .goals) cs (d .listed);
+    Back = λ cs d. WaitingBack cs (d .listed);
+    Over = λ e d. length (d .listed) ≤ 1;
+    goes-back = λ n cs d w. waiting-back w;
+    passes-over = λ g n cs d b. waiting-over b;
+    no-more = λ d b. waiting-few b;
+    stops-at = λ cs d e z b. waiting-few b;
+    calls = λ g gs n cs d e w. waiting-called _ g gs (n .goals) n e w;
+    enters = λ k ks g n cs d l b. waiting-entered k ks g n (length cs) b;
+    binds = λ x t n cs d w. w;
+    cuts = λ h gs n cs d e w. waiting-cut h gs (n .goals) e w;
+    answers = λ n cs d q e w. waiting-listed (n .goals) (answer R L wanted room n) q w;
+    spends-at = λ n cs d w. w;
+    spends-back = λ cs d b. b;
+  }
+
+  -- the cut is the last of the open goals at the start
+  asked-last : (gs : List Goal) → R .query ≡ gs ++ cut ∷ [] → LastCut (map (query-goal 0) (R .query))
+  unfolding query-goal
+  asked-last gs e = (map (query-goal 0) gs, rw e (map-append (query-goal 0) gs (cut ∷ [])))
+
+  run-once : (gs : List Goal) → R .query ≡ gs ++ cut ∷ [] → (budget : ℕ) → length (run R L wanted room budget (start R L wanted room) .1 .listed) ≤ 1
+  unfolding once nothing
+  run-once gs e budget = ends-over R L wanted room once (todays .query-keeps) budget (open-yet (asked-last gs e) tt)
+
+pub at-most-one : AtMostOne
+unfolding ending
+at-most-one R gs q e n u b c =
+    let ran = result-ran (c .file) (c .limits) (c .budget) (c .wanted) (c .scratch) (c .room) e n u b R (c .says) (c .gives) in
+    let few = run-once R (c .limits) (c .wanted) (c .room) gs q (c .budget) in
+    let same : length (run R (c .limits) (c .wanted) (c .room) (c .budget) (start R (c .limits) (c .wanted) (c .room)) .1 .listed) ≡ n = cc in
+    omega arith
 
 -- ---- a query without cut
 same-goals : (h k : ℕ) (gs : List Goal) → NoCut gs → map (query-goal h) gs ≡ map (query-goal k) gs

@@ -1,23 +1,22 @@
 -- The bytes of a run never pass the room, and a refusal's place is in the file or just after it.
 -- Assumes nothing.
-use Prim.Native.Nat.{ℕ, zero, suc, _+_, _-_, _≤_}
+use Prim.Native.Nat.{ℕ, _+_, _-_, _≤_}
 use mathlib.Core.Path.{_≡_, refl, ap, sym, _∙_}
 use mathlib.Core.List.{List, [], _∷_, _++_, append-nil, append-assoc}
 use native.Mathlib.Omega.{arith}
 use lib.Dec.{ltb}
 use lib.ListN.{length, length-append}
 use borrow.Author.Tests.{ltb-false}
-use Rattle.meaning.specs.Terms.{Term, var, app}
 use Rattle.meaning.specs.Editions.{todays}
 use Rattle.meaning.specs.Rules.{Rules}
 use Rattle.meaning.specs.Reading.{Read, refused, read, parse}
 use Rattle.meaning.specs.Answers.{Answer, Piece, piece, pieces, bytes-of, bytes, output, Fit, fits, stops, fitting}
-use Rattle.meaning.specs.Moves.{Limits, Open, goal, cut-to, Derivation, Numbered, Choice, choice, Pair, Move, trying, taking, cutting, Done, State, ended, due}
-use Rattle.meaning.specs.Moves.{nothing, spend, list, pairs, keep, fail, answer, answered, put-out, answering, take-goal, go-on, matching, binding, compared, take-pair, try-head, move, start-keeping, start, run}
+use Rattle.meaning.specs.Moves.{Limits, Done, nothing, spend, list, answer, start, run}
 use Rattle.meaning.specs.Call.{Result, refusal, end, ending, run-read, result-by, result}
 use Rattle.laws.specs.IfLaws.{if-by}
 use Rattle.demands.specs.Faults.{refused-inside}
 use Rattle.demands.specs.Stops.{run-range}
+use Rattle.demands.specs.Along.{Along, ends-over}
 
 -- the bytes of answers, with one more
 pub output-last : (xs : List Answer) (a : Answer) → output (xs ++ a ∷ []) ≡ output xs ++ bytes a
@@ -46,82 +45,36 @@ module _ (R : Rules) (L : Limits) (wanted room : ℕ) where
   abbrev Roomy : Done → Type 0
   Roomy d = length (output (d .listed)) ≤ room
 
-  abbrev Fits : State → Type 0
-  Fits (ended e d) = Roomy d
-  Fits (due m d) = Roomy d
-
-  fail-fits : (cs : List Choice) (d : Done) → Roomy d → Fits (fail cs d)
-  unfolding fail
-  fail-fits [] d h = h
-  fail-fits (choice [] g n ∷ cs) d h = fail-fits cs d h
-  fail-fits (choice (k ∷ ks) g n ∷ cs) d h = h
-
-  answered-fits : (cs : List Choice) (d : Done) → Roomy d → Fits (answered R L wanted room cs d)
-  unfolding answered
-  answered-fits cs d h = if-by Fits _ (λ e. h) (λ e. fail-fits cs d h)
-
-  put-out-fits : (f : Fit) (a : Answer) (cs : List Choice) (d : Done) → (f ≡ fits → length (bytes a) ≤ room - length (output (d .listed))) → Roomy d → Fits (put-out R L wanted room f a cs d)
-  unfolding put-out list
-  put-out-fits fits a cs d k h =
-      let e = ap length (output-last (d .listed) a) in
+  one-more : (a : Answer) (d : Done) → fitting (room - length (output (d .listed))) (L .work) 0 (pieces a) ≡ fits → Roomy d → Roomy (list a d)
+  unfolding list bytes
+  one-more a d e h =
+      let q = ap length (output-last (d .listed) a) in
       let l = length-append (output (d .listed)) (bytes a) in
-      let m = k refl in
-      answered-fits cs _ (omega arith)
-  put-out-fits (stops e) a cs d k h = h
+      let m = fits-within (room - length (output (d .listed))) (L .work) 0 (pieces a) (omega arith) e in
+      omega arith
 
-  answering-fits : (n : Derivation) (cs : List Choice) (d : Done) → Roomy d → Fits (answering R L wanted room n cs d)
-  unfolding answering bytes
-  answering-fits n cs d h = put-out-fits _ (answer R L wanted room n) cs d (λ e. let q = fits-within (room - length (output (d .listed))) (L .work) 0 (pieces (answer R L wanted room n)) (omega arith) e in omega arith) h
-
-  take-goal-fits : (gs : List Open) (n : Derivation) (cs : List Choice) (d : Done) → Roomy d → Fits (take-goal R L wanted room gs n cs d)
-  unfolding take-goal
-  take-goal-fits [] n cs d h = answering-fits n cs d h
-  take-goal-fits (goal g ∷ gs) n cs d h = fail-fits _ d h
-  take-goal-fits (cut-to k ∷ gs) n cs d h = h
-
-  go-on-fits : (n : Derivation) (cs : List Choice) (d : Done) → Roomy d → Fits (go-on R L wanted room n cs d)
-  unfolding go-on
-  go-on-fits n cs d h = take-goal-fits (n .goals) n cs d h
-
-  matching-fits : (ps : List Pair) (n : Derivation) (cs : List Choice) (d : Done) → Roomy d → Fits (matching R L wanted room ps n cs d)
-  unfolding matching
-  matching-fits [] n cs d h = go-on-fits n cs d h
-  matching-fits (p ∷ ps) n cs d h = h
-
-  binding-fits : (x : ℕ) (t : Term) (ps : List Pair) (n : Derivation) (cs : List Choice) (d : Done) → Roomy d → Fits (binding R L wanted room x t ps n cs d)
-  unfolding binding
-  binding-fits x t ps n cs d h = if-by Fits _ (λ e. fail-fits cs d h) (λ e. matching-fits ps _ cs d h)
-
-  compared-fits : (a b : Term) (ps : List Pair) (n : Derivation) (cs : List Choice) (d : Done) → Roomy d → Fits (compared R L wanted room a b ps n cs d)
-  unfolding compared
-  compared-fits (var x) (var y) ps n cs d h = if-by Fits _ (λ e. matching-fits ps n cs d h) (λ e. binding-fits y (var x) ps n cs d h)
-  compared-fits (app f ts) (var y) ps n cs d h = binding-fits y (app f ts) ps n cs d h
-  compared-fits (var x) (app g us) ps n cs d h = binding-fits x (app g us) ps n cs d h
-  compared-fits (app f ts) (app g us) ps n cs d h = if-by Fits _ (λ e. fail-fits cs d h) (λ e. if-by Fits _ (λ l. h) (λ l. matching-fits (pairs ts us ++ ps) n cs d h))
-
-  try-head-fits : (k : Numbered) (c : Choice) (cs : List Choice) (d : Done) → Roomy d → Fits (try-head R L wanted room k c cs d)
-  unfolding try-head
-  try-head-fits k (choice ks g n) cs d h = if-by Fits _ (λ e. h) (λ e. if-by Fits _ (λ f. h) (λ f. matching-fits _ _ _ d h))
-
-  move-fits : (m : Move) (d : Done) → Roomy d → Fits (move R L wanted room m d)
-  unfolding move take-pair
-  move-fits (trying k c cs) d h = try-head-fits k c cs d h
-  move-fits (taking p ps n cs) d h = compared-fits _ _ ps n cs d h
-  move-fits (cutting k n cs) d h = go-on-fits n (keep k cs) d h
-
-  run-fits : (left : ℕ) (s : State) → Fits s → Roomy (run R L wanted room left s .1)
-  unfolding run spend
-  run-fits zero (ended e d) h = h
-  run-fits zero (due m d) h = h
-  run-fits (suc left) (ended e d) h = h
-  run-fits (suc left) (due m d) h = run-fits left (move R L wanted room m (spend d)) (move-fits m (spend d) h)
-
-  start-fits : Fits (start R L wanted room)
-  unfolding start-keeping nothing output
-  start-fits = if-by Fits _ (λ e. omega arith) (λ e. if-by Fits _ (λ f. omega arith) (λ f. go-on-fits _ [] _ (omega arith)))
+  roomy : Along R L wanted room
+  unfolding spend
+  roomy = record {
+    At = λ n cs d. Roomy d;
+    Back = λ cs d. Roomy d;
+    Over = λ e d. Roomy d;
+    goes-back = λ n cs d h. h;
+    passes-over = λ g n cs d h. h;
+    no-more = λ d h. h;
+    stops-at = λ cs d e z h. h;
+    calls = λ g gs n cs d e h. h;
+    enters = λ k ks g n cs d l h. h;
+    binds = λ x t n cs d h. h;
+    cuts = λ k gs n cs d e h. h;
+    answers = λ n cs d q e h. one-more (answer R L wanted room n) d e h;
+    spends-at = λ n cs d h. h;
+    spends-back = λ cs d h. h;
+  }
 
   pub run-roomy : (budget : ℕ) → length (output (run R L wanted room budget (start R L wanted room) .1 .listed)) ≤ room
-  run-roomy budget = run-fits budget (start R L wanted room) start-fits
+  unfolding roomy nothing output
+  run-roomy budget = ends-over R L wanted room roomy (todays .query-keeps) budget (omega arith)
 
 -- ---- the result of a call: a refusal has a number from 1 to 9, and its place is in the file or just after it; an end has a number from
 -- 20 to 26, and its bytes are in the room

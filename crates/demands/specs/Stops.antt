@@ -3,7 +3,7 @@
 use Prim.Native.Nat.{ℕ, zero, suc, _+_, _-_, _≤_, _<_}
 use mathlib.Core.Bool.{Bool, true, false, not}
 use mathlib.Core.Path.{_≡_, refl, ap, sym, subst}
-use mathlib.Core.List.{List, [], _∷_, _++_, map}
+use mathlib.Core.List.{List, [], _∷_, _++_}
 use mathlib.Core.Option.{Option, none, some}
 use native.Mathlib.Omega.{arith}
 use borrow.Author.Tests.{ltb-true, ltb-false, eqb-true, not-false}
@@ -13,7 +13,7 @@ use Rattle.meaning.specs.If.{if_then_else_}
 use Rattle.meaning.specs.Terms.{Term, var, app, Terms, inst, occurs}
 use Rattle.meaning.specs.Editions.{todays}
 use Rattle.meaning.specs.Rules.{Call, Rules}
-use Rattle.meaning.specs.Store.{empty, value, follow}
+use Rattle.meaning.specs.Store.{value, follow}
 use Rattle.meaning.specs.Answers.{Answer, Piece, piece, pieces, output, Fit, fits, stops, fitting}
 use Rattle.meaning.specs.Moves.{Limits, Open, goal, cut-to, Derivation, Numbered, Choice, choice, Pair, Move, trying, taking, cutting, Done, State, ended, due}
 use Rattle.meaning.specs.Moves.{nothing, spend, list, asked, over, pairs, with-binding, with-step, keep, fail}

@@ -10,7 +10,7 @@ use native.Mathlib.Omega.{arith}
 use lib.ListN.{length, getElem?}
 use Rattle.meaning.specs.Terms.{Term, var, Terms, count, inst, insts, from, row}
 use Rattle.meaning.specs.Rules.{Call, Goal, call, cut, Clause, Rules}
-use Rattle.meaning.specs.Store.{Store, empty, value}
+use Rattle.meaning.specs.Store.{Store, value}
 use Rattle.meaning.specs.Answers.{Answer, renumbered}
 use Rattle.meaning.specs.Moves.{Open, goal, cut-to, Derivation, Numbered, Pair, pairs, over, body-goal, query-goal, asked, with-goals, with-binding, with-step}
 use Rattle.demands.specs.Proofs.{Each, Value, Values, calls, at-values, all-at, Proves, Allows, IsProof, Matches, WellCall, WellClause, WellFormed}

@@ -4,7 +4,7 @@
 -- Assumes nothing.
 use Prim.Native.Nat.{ℕ, _+_, _*_, _/_, _%_, _^_, _≤_, _<_, min}
 use mathlib.Core.Path.{_≡_, refl, sym, ap, ap₂, _∙_}
-use mathlib.Core.List.{List, _++_}
+use mathlib.Core.List.{List, [], _∷_, _++_}
 use native.Mathlib.Omega.{arith}
 use lib.Dec.{ltb}
 use native.Mathlib.Nat.{min-le-right}
@@ -13,7 +13,7 @@ use borrow.Author.Tests.{ltb-false}
 use Rattle.laws.specs.IfLaws.{if-by}
 use Rattle.meaning.specs.Kinds.{earlier-limits}
 use Rattle.meaning.specs.Editions.{Edition, document-01, todays, within, keeping}
-use Rattle.meaning.specs.Rules.{Rules}
+use Rattle.meaning.specs.Rules.{Goal, cut, Rules}
 use Rattle.meaning.specs.Reading.{parse}
 use Rattle.meaning.specs.Answers.{Answer, output}
 use Rattle.meaning.specs.Call.{Result, refusal, end, result-by, result, output-after}
@@ -24,7 +24,7 @@ use Rattle.demands.specs.Demands.{SaysWithin, Says, LeavesBy, Ends, Correct, Co
 use Rattle.demands.specs.Rooms.{Small, result-small}
 use Rattle.demands.specs.Theorems.{third-demand, third-demand-with-cut}
 use Rattle.demands.specs.LargerLaws.{accepted-before, same-result as larger-result, same-embedded as larger-embedded}
-use Rattle.demands.specs.QueryCutLaws.{same-result as cut-result, same-embedded as cut-embedded, settled-result, settled-embedded}
+use Rattle.demands.specs.QueryCutLaws.{same-result as cut-result, same-embedded as cut-embedded, settled-result, settled-embedded, at-most-one}
 use Rattle.reading.specs.Verdict.{verdict}
 use Rattle.machine.specs.Calling.{limits-of, result-of}
 use Rattle.search.specs.declared.Limits.{Limits}
@@ -145,6 +145,10 @@ module _ (file : List ℕ) (budget wanted : ℕ) (o : List ℕ) where
     -- without cut, the answers that it wrote are complete
     pub run-complete : Uncut R → (listed : List Answer) × Wrote listed × Complete R listed (e ≡ 20)
     run-complete uncut = let (listed, f, k, c) = third-demand R e answers units b uncut ends in (listed, wrote listed f k, c)
+
+    -- where the query's last goal is a cut, there is at most one
+    pub run-at-most-one : (gs : List Goal) → R .query ≡ gs ++ cut ∷ [] → answers ≤ 1
+    run-at-most-one gs last = at-most-one R gs last e answers units b ends
 
     -- with cut or without, they are right, and rise in dictionary order
     pub run-correct : (listed : List Answer) × Wrote listed × Correct R listed

@@ -4,13 +4,13 @@
 -- Assumes nothing.
 use Prim.Native.Nat.{ℕ, _≤_}
 use mathlib.Core.Path.{_≡_, refl, sym, ap, ap₂, _∙_, subst}
-use mathlib.Core.List.{List, _++_}
+use mathlib.Core.List.{List, [], _∷_, _++_}
 use lib.Dec.{eqb}
 use lib.ListN.{length, drop, replicate}
 use Rattle.meaning.specs.If.{if_then_else_}
 use Rattle.meaning.specs.Kinds.{earlier-limits}
 use Rattle.meaning.specs.Editions.{Edition, document-01, todays, within, keeping}
-use Rattle.meaning.specs.Rules.{Rules}
+use Rattle.meaning.specs.Rules.{Goal, cut, Rules}
 use Rattle.meaning.specs.Answers.{Answer, output}
 use Rattle.meaning.specs.Call.{Result, refusal, end, result-by, needed, output-after, scratch-after}
 use Rattle.meaning.specs.Outcome.{end-number, Said, refused-as, ended-as, says, to-say}
@@ -24,7 +24,7 @@ use Rattle.demands.specs.Proofs.{NoCut, Uncut}
 use Rattle.demands.specs.Demands.{SaysWithin, Says, LeavesBy, Ends, Correct, Complete}
 use Rattle.demands.specs.Theorems.{third-demand, third-demand-with-cut}
 use Rattle.demands.specs.LargerLaws.{same-result as larger-result}
-use Rattle.demands.specs.QueryCutLaws.{same-result as cut-result, settled-result}
+use Rattle.demands.specs.QueryCutLaws.{same-result as cut-result, settled-result, at-most-one}
 use Rattle.demands.specs.Rooms.{Small, result-small}
 use Rattle.search.specs.declared.Limits.{Limits}
 use Rattle.machine.specs.Calling.{limits-of, result-of, Called}
@@ -155,6 +155,10 @@ module _ (file : List ℕ) (l : Limits) (budget wanted : ℕ) (w o : List ℕ) w
         let k = called-ended e t v q a in
         let (listed, b, n, c) = third-demand R (end-number e) (t .answers) (t .units) (k .written) uncut ends in
         (listed, wrote listed (k .written) b n (k .long) (k .output-is), c)
+
+    -- where the query's last goal is a cut, there is at most one
+    pub called-at-most-one : (gs : List Goal) → R .query ≡ gs ++ cut ∷ [] → t .answers ≤ 1
+    called-at-most-one gs last = at-most-one R gs last (end-number e) (t .answers) (t .units) (called-ended e t v q a .written) ends
 
     -- with cut or without, they are right, and rise in dictionary order
     pub called-correct : (listed : List Answer) × Wrote listed × Correct R listed
