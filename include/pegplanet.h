@@ -19,7 +19,7 @@
 #include <stddef.h>
 #include <stdint.h>
 
-#define PEGPLANET_VERSION "0.3.0"
+#define PEGPLANET_VERSION "0.4.0"
 
 #ifdef __cplusplus
 extern "C" {
@@ -429,6 +429,7 @@ static inline void pegplanet_put_goal(struct pegplanet_builder *builder, uint32_
     pegplanet_count_goal(builder);
 }
 
+/* What was found up to here is kept to: no goal before the cut is tried again. A query that ends with a cut has at most one answer. */
 static inline void pegplanet_put_cut(struct pegplanet_builder *builder) {
     pegplanet_put(builder, PEGPLANET_KIND_CUT, 0);
     pegplanet_count_goal(builder);

@@ -195,7 +195,7 @@ enum { RULES = sizeof append_rules, BEFORE = RULES - 4, APPEND = BEFORE + sizeof
 enum { NIL, CONS, A };
 
 /* app(X, Y, cons(a, nil)), put at the end of the rules. */
-static size_t put_append(struct pegplanet_builder *question) {
+static void ask_append(struct pegplanet_builder *question) {
     pegplanet_put_query(question);
     pegplanet_put_goal(question, 0);
     pegplanet_put_variable(question, 0);
@@ -203,13 +203,18 @@ static size_t put_append(struct pegplanet_builder *question) {
     pegplanet_put_function(question, CONS);
     pegplanet_put_function(question, A);
     pegplanet_put_function(question, NIL);
+}
+
+static size_t put_append(struct pegplanet_builder *question) {
+    ask_append(question);
     return pegplanet_put_end(question);
 }
 
 static void queries(void) {
-    uint8_t file[APPEND + 1];
+    uint8_t file[APPEND + 1], out[ROOM];
     struct pegplanet_builder question;
     size_t room, goals;
+    uint64_t packed;
     /* with too little room nothing is written behind it, and the file of no bytes is refused */
     for (room = RULES; room <= APPEND; room++) {
         memcpy(file, append_rules, RULES);
@@ -224,6 +229,17 @@ static void queries(void) {
     same("query of case A", (uint64_t)memcmp(file + BEFORE, append_query, sizeof append_query), 0);
     same("the same query again", put_append(&question), APPEND);
     same("query of case A, again", (uint64_t)memcmp(file + BEFORE, append_query, sizeof append_query), 0);
+    /* with a cut behind it, the query has its first answer alone */
+    memcpy(file, append_rules, RULES);
+    question = pegplanet_rules(file, RULES, sizeof file);
+    ask_append(&question);
+    pegplanet_put_cut(&question);
+    same("length of a query with a cut", pegplanet_put_end(&question), APPEND + 1);
+    packed = pegplanet_run(file, APPEND + 1, 5, 2, out, sizeof out);
+    same("end of a query with a cut", pegplanet_number(packed), PEGPLANET_END_NO_MORE);
+    same("bytes of a query with a cut", pegplanet_bytes(packed), 21);
+    same("answer of a query with a cut", (uint64_t)memcmp(out, append_answers, 21), 0);
+    same("a query with a cut and a unit less", pegplanet_number(pegplanet_run(file, APPEND + 1, 4, 2, out, sizeof out)), PEGPLANET_END_BUDGET);
     /* a query's cuts are goals; the seventeenth goal is one too many, and a number that has no two bytes is none */
     for (goals = 16; goals <= 17; goals++) {
         size_t goal;
