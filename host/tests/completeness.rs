@@ -306,3 +306,36 @@ fn with_cuts_each_answer_is_a_proof_of_the_rules_without_them() {
     assert!(fewer > 100, "{fewer}");
     assert!(all > 100, "{all}");
 }
+
+#[test]
+fn a_cut_in_the_query_keeps_the_first_proof_of_the_goals_before_it() {
+    let (mut fewer, mut all) = (0, 0);
+    for seed in 0..20_000 {
+        let mut random = Random::new(seed);
+        let mut program = random_program(&mut random, TINY);
+        let Some(mut expected) = proofs(&program, LONGEST) else {
+            continue;
+        };
+        let at = random.between(0, program.query.len());
+        let mut before = program.clone();
+        before.query.truncate(at);
+        program.query.insert(at, TreeGoal::Cut);
+        let ((20, found), (20, listed)) = (listed(&before), listed(&program)) else {
+            continue;
+        };
+        let Some(first) = proofs(&before, LONGEST) else {
+            continue;
+        };
+        if found.len() > first.len() {
+            continue; // some are too long for this test, maybe the first
+        }
+        let without = expected.len();
+        let first = first.first().map(|proof| &proof.steps);
+        expected.retain(|proof| first.is_some_and(|first| proof.steps.starts_with(first)));
+        assert_eq!(short(listed), expected, "seed {seed}: {program:?}");
+        fewer += usize::from(expected.len() < without);
+        all += usize::from(expected.len() == without && without > 1);
+    }
+    assert!(fewer > 1_500, "{fewer}");
+    assert!(all > 1_000, "{all}");
+}

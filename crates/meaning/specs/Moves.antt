@@ -18,7 +18,8 @@ pub record Limits : Type 0 where
   pub steps : ℕ
   pub work : ℕ
 
--- an open goal, over cells; a cut knows how many choices it keeps: those there were before its own goal was called
+-- An open goal, over cells. A cut knows how many choices it keeps: in a clause's body those there were before the goal was called; in the
+-- query none, by 2026-02
 pub data Open : Type 0 where
   goal : Call → Open
   cut-to : ℕ → Open
