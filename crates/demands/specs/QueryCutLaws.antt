@@ -1,4 +1,5 @@
--- What a cut in the query keeps: none of the choices today, all of them by document 01, and nothing hangs on it where there is none.
+-- What a cut in the query keeps: none of the choices today, all of them by document 01. A query that ends with one has at most one answer, and
+-- where there is none nothing hangs on it.
 -- Assumes nothing.
 use Prim.Native.Nat.{ℕ, zero, suc, _+_, _-_, _≤_, _<_, min}
 use mathlib.Core.Path.{_≡_, refl, ap, sym, _∙_}
