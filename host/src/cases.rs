@@ -1,4 +1,5 @@
-//! The stored table of the programs run by hand in document 01, cases.txt.
+//! The stored table of the programs run by hand, cases.txt: those of documents
+//! 01 and 02, and some beside them.
 
 use crate::call::{Case, EMBEDDED, EMBEDDED_FILE};
 

@@ -1,5 +1,5 @@
-//! The programs run by hand in document 01, with its own figures, and those at
-//! the limits of clauses and variables.
+//! The programs run by hand, with the figures of documents 01 and 02, and those
+//! at the limits of clauses and variables.
 
 mod common;
 

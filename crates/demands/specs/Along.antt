@@ -103,7 +103,7 @@ module _ (R : Rules) (L : Limits) (wanted room : ℕ) where
     due-over (taking p ps n cs) d a = at-end 22 n cs d (omega arith) a
     due-over (cutting h n cs) d a = at-end 22 _ cs d (omega arith) a
 
-    pub start-holds : (h : ℕ) → A .At (asked R h) [] nothing → Holds (start-keeping R L wanted room h)
+    start-holds : (h : ℕ) → A .At (asked R h) [] nothing → Holds (start-keeping R L wanted room h)
     unfolding start-keeping go-on
     start-holds h a =
         if-by Holds _ (λ e. at-end 21 (asked R h) [] nothing (omega arith) a) (λ e. if-by Holds _ (λ l. at-end 23 (asked R h) [] nothing (omega arith) a) (λ l.

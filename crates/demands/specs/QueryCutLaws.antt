@@ -80,7 +80,7 @@ module _ (R : Rules) (L : Limits) (wanted room : ℕ) where
     spends-back = λ cs d b. b;
   }
 
-  pub few-choices : (h budget j : ℕ) (n : Derivation) (cs : List Choice) (d : Done)
+  few-choices : (h budget j : ℕ) (n : Derivation) (cs : List Choice) (d : Done)
       → ReachedFrom R L wanted room (start-keeping R L wanted room h) budget (due (cutting j n cs) d) → length cs ≤ L .steps
   unfolding few with-goals
   few-choices h budget j n cs d r =
@@ -206,7 +206,7 @@ same-goals h k [] n = refl
 same-goals h k (call g ∷ gs) n = ap (goal g ∷_) (same-goals h k gs n)
 same-goals h k (cut ∷ gs) n = absurd n
 
-pub same-start : (R : Rules) → NoCut (R .query) → (L : Limits) (wanted room h k : ℕ) → start-keeping R L wanted room h ≡ start-keeping R L wanted room k
+same-start : (R : Rules) → NoCut (R .query) → (L : Limits) (wanted room h k : ℕ) → start-keeping R L wanted room h ≡ start-keeping R L wanted room k
 unfolding start-keeping
 same-start R n L wanted room h k = rw (same-goals h k (R .query) n) refl
 

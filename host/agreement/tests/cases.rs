@@ -1,6 +1,6 @@
-//! The programs run by hand in document 01, and those at the limits of clauses
-//! and variables, by each way into the library: the whole call, the embedded
-//! form and the small program.
+//! The programs run by hand, and those at the limits of clauses and variables,
+//! by each way into the library: the whole call, the embedded form and the small
+//! program.
 
 mod common;
 
