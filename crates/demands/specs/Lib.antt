@@ -24,4 +24,6 @@ pub mod LargerCases
 pub mod QueryCut
 pub mod QueryCutLaws
 pub mod QueryCutCases
+pub mod MoreRoom
+pub mod MoreRoomLaws
 pub mod Append

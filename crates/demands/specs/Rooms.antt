@@ -18,13 +18,17 @@ use Rattle.demands.specs.Faults.{refused-inside}
 use Rattle.demands.specs.Stops.{run-range}
 use Rattle.demands.specs.Along.{Along, ends-over}
 
--- the bytes of answers, with one more
+-- the bytes of answers, with more behind them, with one more
+pub output-append : (xs ys : List Answer) → output (xs ++ ys) ≡ output xs ++ output ys
+unfolding output
+output-append [] ys = refl
+output-append (x ∷ xs) ys = ap (bytes x ++_) (output-append xs ys) ∙ sym (append-assoc (bytes x) (output xs) (output ys))
+
 pub output-last : (xs : List Answer) (a : Answer) → output (xs ++ a ∷ []) ≡ output xs ++ bytes a
 unfolding output
-output-last [] a = append-nil (bytes a)
-output-last (x ∷ xs) a = ap (bytes x ++_) (output-last xs a) ∙ sym (append-assoc (bytes x) (output xs) (bytes a))
+output-last xs a = output-append xs (a ∷ []) ∙ ap (output xs ++_) (append-nil (bytes a))
 
-never-fits : (n : ℕ) → stops n ≡ fits → ⊥
+pub never-fits : (n : ℕ) → stops n ≡ fits → ⊥
 never-fits n q = let z : _≡_ {A = ℕ} 0 1 = cc in omega arith
 
 -- an answer that fits is no longer than the room left

@@ -2,15 +2,15 @@
 -- Assumes nothing.
 use Prim.Native.Nat.{ℕ}
 use mathlib.Core.Path.{_≡_, refl, ap, sym, _∙_, subst}
-use mathlib.Core.Bool.{not}
+use mathlib.Core.Bool.{false, not}
 use mathlib.Core.List.{List}
 use native.Mathlib.Omega.{arith}
 use lib.Dec.{ltb}
 use lib.ListN.{length}
 use Rattle.meaning.specs.Kinds.{file-limit}
-use Rattle.meaning.specs.Editions.{todays}
+use Rattle.meaning.specs.Editions.{Edition, todays}
 use Rattle.meaning.specs.Rules.{Rules}
-use Rattle.meaning.specs.Reading.{Read}
+use Rattle.meaning.specs.Reading.{Read, parse-within}
 use Rattle.meaning.specs.Answers.{Answer, output}
 use Rattle.meaning.specs.Moves.{Limits, Done, run, start}
 use Rattle.meaning.specs.Call.{Result, refusal, end, in-range, needed, ending, run-read, result-by, result, output-after, scratch-after}
@@ -30,19 +30,30 @@ use Rattle.demands.specs.Searches.{start-holds, run-fine}
 abbrev pub ran : Rules → Limits → ℕ → ℕ → ℕ → ℕ × Done
 ran R L budget wanted room = run R L wanted room budget (start R L wanted room)
 
-not-refused : (n p e k u : ℕ) (b : List ℕ) → refusal n p ≡ end e k u b → ⊥
+pub not-refused : (n p e k u : ℕ) (b : List ℕ) → refusal n p ≡ end e k u b → ⊥
 not-refused n p e k u b q = let z : _≡_ {A = ℕ} 0 1 = cc in omega arith
 
--- a call that comes to an end is the run of the rules that its file says
-pub result-ran : (file : List ℕ) (L : Limits) (budget wanted scratch room e n u : ℕ) (b : List ℕ) (R : Rules) → Says file R → result file L budget wanted scratch room ≡ end e n u b
-    → ending (ran R L budget wanted room) ≡ end e n u b
-unfolding result-by run-read
-result-ran file L budget wanted scratch room e n u b R (seen, at, says) q =
-    let G : Result → Type 0 = λ r. r ≡ end e n u b → ending (ran R L budget wanted room) ≡ end e n u b in
+-- a call that comes to an end, by the rules of an edition: its file is not too long, and is run as it was read
+pub record Accepted (E : Edition) (file : List ℕ) (L : Limits) (budget wanted room : ℕ) (r : Result) : Type 0 where
+  pub short : ltb file-limit (length file) ≡ false
+  pub runs : run-read E (parse-within file (E .limits)) L budget wanted room ≡ r
+
+pub result-read : (E : Edition) (file : List ℕ) (L : Limits) (budget wanted scratch room e n u : ℕ) (b : List ℕ) → result-by E file L budget wanted scratch room ≡ end e n u b
+    → Accepted E file L budget wanted room (end e n u b)
+unfolding result-by
+result-read E file L budget wanted scratch room e n u b q =
+    let G : Result → Type 0 = λ r. r ≡ end e n u b → Accepted E file L budget wanted room (end e n u b) in
     if-by G (not (in-range L)) (λ t p. absurd (not-refused 1 0 e n u b p))
     (λ t. if-by G (ltb file-limit (length file)) (λ v p. absurd (not-refused 2 0 e n u b p))
     (λ v. if-by G (ltb scratch (needed (length file) L)) (λ w p. absurd (not-refused 3 0 e n u b p))
-    (λ w p. subst (λ (r : Read Rules). run-read todays r L budget wanted room ≡ end e n u b) says p))) q
+    (λ w p. record { short = v; runs = p }))) q
+
+-- so it is the run of the rules that its file says
+pub result-ran : (file : List ℕ) (L : Limits) (budget wanted scratch room e n u : ℕ) (b : List ℕ) (R : Rules) → Says file R → result file L budget wanted scratch room ≡ end e n u b
+    → ending (ran R L budget wanted room) ≡ end e n u b
+unfolding run-read
+result-ran file L budget wanted scratch room e n u b R (seen, at, says) q =
+    subst (λ (r : Read Rules). run-read todays r L budget wanted room ≡ end e n u b) says (result-read todays file L budget wanted scratch room e n u b q .runs)
 
 module _ (R : Rules) (e n u : ℕ) (b : List ℕ) (c : Ends R e n u b) where
   abbrev done : ℕ × Done
