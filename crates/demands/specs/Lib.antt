@@ -26,4 +26,5 @@ pub mod QueryCutLaws
 pub mod QueryCutCases
 pub mod MoreRoom
 pub mod MoreRoomLaws
+pub mod MoreRoomCases
 pub mod Append

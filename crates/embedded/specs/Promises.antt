@@ -1,6 +1,6 @@
 -- What follows from the promises of the exported functions: one content of every buffer and one number, what the two halves of the number
--- say, the third demand for what the embedded form wrote, and that they do what they did where a request of document 02 changed nothing for
--- a file.
+-- say, the third demand for what the embedded form wrote, that they do what they did where a request of document 02 changed nothing for a
+-- file, and that where they are given no less they write what they wrote and go on from there.
 -- Assumes nothing.
 use Prim.Native.Nat.{ℕ, _+_, _*_, _/_, _%_, _^_, _≤_, _<_, min}
 use mathlib.Core.Path.{_≡_, refl, sym, ap, ap₂, _∙_}
@@ -8,7 +8,7 @@ use mathlib.Core.List.{List, [], _∷_, _++_}
 use native.Mathlib.Omega.{arith}
 use lib.Dec.{ltb}
 use native.Mathlib.Nat.{min-le-right}
-use lib.ListN.{length, drop}
+use lib.ListN.{length, getD, take, drop}
 use borrow.Author.Tests.{ltb-false}
 use Rattle.laws.specs.IfLaws.{if-by}
 use Rattle.meaning.specs.Kinds.{earlier-limits}
@@ -18,18 +18,21 @@ use Rattle.meaning.specs.Reading.{parse}
 use Rattle.meaning.specs.Answers.{Answer, output}
 use Rattle.meaning.specs.Call.{Result, refusal, end, result-by, result, output-after}
 use Rattle.meaning.specs.Embedded.{embedded-in, embedded-by, embedded, embedded-limits, embedded-scratch, room-limit, packed}
-use Rattle.meaning.specs.Outcome.{to-say}
+use Rattle.meaning.specs.Outcome.{Said, to-say}
 use Rattle.demands.specs.Proofs.{NoCut, Uncut}
 use Rattle.demands.specs.Demands.{SaysWithin, Says, LeavesBy, Ends, Correct, Complete}
 use Rattle.demands.specs.Rooms.{Small, result-small}
-use Rattle.demands.specs.Theorems.{third-demand, third-demand-with-cut}
+use Rattle.demands.specs.MoreRoom.{BeginningOf, Raised, Continued}
+use Rattle.demands.specs.MoreRoomLaws.{more-room, more-room-embedded, refused-alike}
+use Rattle.demands.specs.Theorems.{not-refused, third-demand, third-demand-with-cut}
 use Rattle.demands.specs.LargerLaws.{accepted-before, same-result as larger-result, same-embedded as larger-embedded}
 use Rattle.demands.specs.QueryCutLaws.{same-result as cut-result, same-embedded as cut-embedded, settled-result, settled-embedded, at-most-one}
 use Rattle.reading.specs.Verdict.{verdict}
 use Rattle.machine.specs.Calling.{limits-of, result-of}
+use Rattle.machine.specs.Promises.{given-by, taken}
 use Rattle.search.specs.declared.Limits.{Limits}
 use Rattle.embedded.specs.Checking.{checked-number}
-use Rattle.embedded.specs.Telling.{told, CallTells, EmbedTells}
+use Rattle.embedded.specs.Telling.{told-four, told-all, told, CallTells, EmbedTells}
 
 -- one content of scratch, output and result
 pub call-once : (file : List ℕ) (l : Limits) (budget wanted : ℕ) (w o r : List ℕ) (u v p q s t : List ℕ) → CallTells file l budget wanted w o r u p s → CallTells file l budget wanted w o r v q t → (u ≡ v) × (p ≡ q) × (s ≡ t)
@@ -153,3 +156,95 @@ module _ (file : List ℕ) (budget wanted : ℕ) (o : List ℕ) where
     -- with cut or without, they are right, and rise in dictionary order
     pub run-correct : (listed : List Answer) × Wrote listed × Correct R listed
     run-correct = let (listed, f, k, c) = third-demand-with-cut R e answers units b ends in (listed, wrote listed f k, c)
+
+-- ---- 2026-14: two calls with the same file, and the second is given no less
+-- a word of a result
+abbrev pub word : List ℕ → ℕ → ℕ
+word s i = getD s i 0
+
+-- the first five words of a result that holds as many
+five-told : (n place answers units bytes : ℕ) (r : List ℕ) → 5 ≤ length r → let s = told-all n place answers units bytes r in
+    (word s 0 ≡ n) × (word s 1 ≡ place) × (word s 2 ≡ answers) × (word s 3 ≡ units) × (word s 4 ≡ bytes)
+unfolding told-all told-four
+five-told n place answers units bytes [] h = absurd (omega arith)
+five-told n place answers units bytes (_ ∷ []) h = absurd (omega arith)
+five-told n place answers units bytes (_ ∷ _ ∷ []) h = absurd (omega arith)
+five-told n place answers units bytes (_ ∷ _ ∷ _ ∷ []) h = absurd (omega arith)
+five-told n place answers units bytes (_ ∷ _ ∷ _ ∷ _ ∷ []) h = absurd (omega arith)
+five-told n place answers units bytes (_ ∷ _ ∷ _ ∷ _ ∷ _ ∷ r) h = (refl, refl, refl, refl, refl)
+
+module _ (file : List ℕ) (l : Limits) (budget wanted : ℕ) (w o r v p s : List ℕ) where
+  -- what a result of five words or more tells of a call that was not refused, and the bytes that stand in the output
+  pub record CallEnded : Type 0 where
+    pub written : List ℕ
+    pub gives : result-of file l budget wanted w o ≡ end (word s 0) (word s 2) (word s 3) written
+    pub long : length written ≡ word s 4
+    pub output-is : p ≡ written ++ drop (word s 4) o
+
+  call-came : (x : Result) → result-of file l budget wanted w o ≡ x → Small file (length o) x → s ≡ told (to-say x) r → p ≡ output-after x o → 5 ≤ length r → 20 ≤ word s 0 → CallEnded
+  unfolding told to-say output-after
+  call-came (refusal n q) g small words out h k = let f = five-told n q 0 0 0 r h .0 in let most = small .1 in let told = ap (λ (t : List ℕ). word t 0) words in absurd (omega arith)
+  call-came (end e n u b) g small words out h k =
+      let (f₀, f₁, f₂, f₃, f₄) = five-told e 0 n u (length b) r h in
+      let said : s ≡ told-all e 0 n u (length b) r = words in
+      record {
+        written = b;
+        gives = g ∙ rw (said, f₀, f₂, f₃) refl;
+        long = rw (said, f₄) refl;
+        output-is = rw (said, f₄) out;
+      }
+
+  pub call-ended : CallTells file l budget wanted w o r v p s → 5 ≤ length r → 20 ≤ word s 0 → CallEnded
+  call-ended a = call-came _ refl (result-small file (limits-of l) budget wanted (length w) (length o)) (a .words) (a .output)
+
+module _ (file : List ℕ) (l m : Limits) (budget budget′ wanted wanted′ : ℕ) (w w′ o o′ : List ℕ) (raised : Raised (given-by l budget wanted w o) (given-by m budget′ wanted′ w′ o′))
+  (r r′ v v′ p p′ s s′ : List ℕ) (a : CallTells file l budget wanted w o r v p s) (b : CallTells file m budget′ wanted′ w′ o′ r′ v′ p′ s′)
+  (five : 5 ≤ length r) (five′ : 5 ≤ length r′) (ended : 20 ≤ word s 0) (ended′ : 20 ≤ word s′ 0) where
+  first : CallEnded file l budget wanted w o r v p s
+  first = call-ended file l budget wanted w o r v p s a five ended
+
+  second : CallEnded file m budget′ wanted′ w′ o′ r′ v′ p′ s′
+  second = call-ended file m budget′ wanted′ w′ o′ r′ v′ p′ s′ b five′ ended′
+
+  continued : Continued (word s 0) (word s 2) (word s 3) (first .written) (word s′ 0) (word s′ 2) (word s′ 3) (second .written)
+  continued = more-room todays file _ _ raised (word s 0) (word s 2) (word s 3) (first .written) (first .gives) (word s′ 0) (word s′ 2) (word s′ 3) (second .written) (second .gives)
+
+  -- what the first wrote, by its result, is the beginning of what the second wrote
+  pub call-continued : Continued (word s 0) (word s 2) (word s 3) (take (word s 4) p) (word s′ 0) (word s′ 2) (word s′ 3) (take (word s′ 4) p′)
+  call-continued =
+      rw (← taken (first .written) o p (word s 4) (first .long) (first .output-is), ← taken (second .written) o′ p′ (word s′ 4) (second .long) (second .output-is)) continued
+
+  -- and where the first came to 20, both results tell the same
+  pub call-no-more : word s 0 ≡ 20 → (y : Said) × (s ≡ told y r) × (s′ ≡ told y r′)
+  call-no-more n = (
+    to-say (result-of file l budget wanted w o),
+    a .words,
+    b .words ∙ ap (λ (x : Result). told (to-say x) r′) (second .gives ∙ sym (continued .no-more n) ∙ sym (first .gives)),
+  )
+
+-- the bytes that the embedded form wrote, by its number
+abbrev pub written-by : ℕ → List ℕ → List ℕ
+written-by n p = take (n % 2 ^ 32) p
+
+-- the number of a call by the embedded form and the bytes that it wrote, and those of one that is given no less: it is not refused either
+pub record RunContinued (n n′ : ℕ) (bytes bytes′ : List ℕ) : Type 0 where
+  pub ends : 20 ≤ n′ / 2 ^ 32
+  pub beginning : BeginningOf bytes bytes′
+  pub no-more : n / 2 ^ 32 ≡ 20 → (n ≡ n′) × (bytes ≡ bytes′)
+
+module _ (file : List ℕ) (budget budget′ wanted wanted′ : ℕ) (o o′ : List ℕ) (f : budget ≤ budget′) (g : wanted ≤ wanted′) (h : length o ≤ length o′)
+  (n n′ : ℕ) (p p′ : List ℕ) (a : EmbedTells file budget wanted o n p) (b : EmbedTells file budget′ wanted′ o′ n′ p′) where
+  both-apart : 20 ≤ n / 2 ^ 32 → Apart file budget wanted o n p → Apart file budget′ wanted′ o′ n′ p′ → RunContinued n n′ (written-by n p) (written-by n′ p′)
+  both-apart high (refused e few is) y = absurd (omega arith)
+  both-apart high (ended k u c gives many long is) (refused e few is′) =
+      absurd (not-refused _ _ _ k u c (sym (refused-alike todays file budget′ budget wanted′ wanted (length o′) (length o) _ _ e) ∙ gives))
+  both-apart high (ended k u c gives many long is) (ended k′ u′ c′ gives′ many′ long′ is′) =
+      let x = more-room-embedded todays file budget budget′ wanted wanted′ (length o) (length o′) f g h _ k u c gives _ k′ u′ c′ gives′ in
+      rw (← taken c o p (n % 2 ^ 32) (sym long) (rw long is), ← taken c′ o′ p′ (n′ % 2 ^ 32) (sym long′) (rw long′ is′)) record {
+        ends = many′;
+        beginning = x .beginning;
+        no-more = λ q. let same = x .no-more q in (a .number ∙ ap packed (gives ∙ same ∙ sym gives′) ∙ sym (b .number), cc);
+      }
+
+  pub run-continued : 20 ≤ n / 2 ^ 32 → RunContinued n n′ (written-by n p) (written-by n′ p′)
+  run-continued high = both-apart high (run-apart file budget wanted o n p a) (run-apart file budget′ wanted′ o′ n′ p′ b)

@@ -1,12 +1,14 @@
 -- What follows from the promise of the whole call: there is one outcome and one content of each buffer; a refusal leaves everything as
--- it was; an end leaves the needed scratch zero and the rest of it and of the output unchanged; what the function wrote is complete; and
--- where a request of document 02 changed nothing for a file, it leaves what it left before.
+-- it was; an end leaves the needed scratch zero and the rest of it and of the output unchanged; what the function wrote is complete;
+-- where a request of document 02 changed nothing for a file, it leaves what it left before; and where it is given no less, it writes what it
+-- wrote and goes on from there.
 -- Assumes nothing.
 use Prim.Native.Nat.{ℕ, _≤_}
 use mathlib.Core.Path.{_≡_, refl, sym, ap, ap₂, _∙_, subst}
 use mathlib.Core.List.{List, [], _∷_, _++_}
 use lib.Dec.{eqb}
-use lib.ListN.{length, drop, replicate}
+use lib.ListN.{length, take, drop, replicate}
+use lib.Seq.{take-append-seam}
 use Rattle.meaning.specs.If.{if_then_else_}
 use Rattle.meaning.specs.Kinds.{earlier-limits}
 use Rattle.meaning.specs.Editions.{Edition, document-01, todays, within, keeping}
@@ -26,6 +28,8 @@ use Rattle.demands.specs.Theorems.{third-demand, third-demand-with-cut}
 use Rattle.demands.specs.LargerLaws.{same-result as larger-result}
 use Rattle.demands.specs.QueryCutLaws.{same-result as cut-result, settled-result, at-most-one}
 use Rattle.demands.specs.Rooms.{Small, result-small}
+use Rattle.demands.specs.MoreRoom.{Given, Raised, Continued}
+use Rattle.demands.specs.MoreRoomLaws.{more-room}
 use Rattle.search.specs.declared.Limits.{Limits}
 use Rattle.machine.specs.Calling.{limits-of, result-of, Called}
 
@@ -166,3 +170,35 @@ module _ (file : List ℕ) (l : Limits) (budget wanted : ℕ) (w o : List ℕ) w
         let k = called-ended e t v q a in
         let (listed, b, n, c) = third-demand-with-cut R (end-number e) (t .answers) (t .units) (k .written) ends in
         (listed, wrote listed (k .written) b n (k .long) (k .output-is), c)
+
+-- ---- 2026-14: two calls with the same file, neither of which is refused, and the second is given no less
+abbrev pub given-by : Limits → ℕ → ℕ → List ℕ → List ℕ → Given
+given-by l budget wanted w o = record { limits = limits-of l; budget = budget; wanted = wanted; scratch = length w; room = length o }
+
+-- the bytes that stand first in the output
+pub taken : (b o q : List ℕ) (k : ℕ) → length b ≡ k → q ≡ b ++ drop k o → b ≡ take k q
+taken b o q k long is = rw (is, ← long) (sym (take-append-seam b (drop (length b) o)))
+
+module _ (file : List ℕ) (l m : Limits) (budget budget′ wanted wanted′ : ℕ) (w w′ o o′ : List ℕ) (raised : Raised (given-by l budget wanted w o) (given-by m budget′ wanted′ w′ o′))
+  (e e′ : End) (t t′ : Totals) (v v′ q q′ : List ℕ) (a : Called file l budget wanted w o (Ended e t) v q) (b : Called file m budget′ wanted′ w′ o′ (Ended e′ t′) v′ q′) where
+  first : Left file l budget wanted w o (t .answers) (t .units) (t .bytes) (end-number e) v q
+  first = called-ended file l budget wanted w o e t v q a
+
+  second : Left file m budget′ wanted′ w′ o′ (t′ .answers) (t′ .units) (t′ .bytes) (end-number e′) v′ q′
+  second = called-ended file m budget′ wanted′ w′ o′ e′ t′ v′ q′ b
+
+  continued : Continued (end-number e) (t .answers) (t .units) (first .written) (end-number e′) (t′ .answers) (t′ .units) (second .written)
+  continued = more-room todays file _ _ raised (end-number e) (t .answers) (t .units) (first .written) (first .gives) (end-number e′) (t′ .answers) (t′ .units) (second .written) (second .gives)
+
+  -- what the first wrote is the beginning of what the second wrote
+  pub called-continued : Continued (end-number e) (t .answers) (t .units) (take (t .bytes) q) (end-number e′) (t′ .answers) (t′ .units) (take (t′ .bytes) q′)
+  called-continued =
+      rw (← taken (first .written) o q (t .bytes) (first .long) (first .output-is), ← taken (second .written) o′ q′ (t′ .bytes) (second .long) (second .output-is)) continued
+
+  -- and where the first came to no more, so did the second, with the same totals and the same bytes
+  pub called-no-more : e ≡ NoMore → (Ended e t ≡ Ended e′ t′) × (take (t .bytes) q ≡ take (t′ .bytes) q′)
+  unfolding end-number
+  called-no-more n =
+      let same = first .gives ∙ continued .no-more (ap end-number n) ∙ sym (second .gives) in
+      let bytes = called-continued .no-more (ap end-number n) in
+      (sym (outcome-back (Ended e t)) ∙ ap outcome-of (a .outcome ∙ ap to-say same ∙ sym (b .outcome)) ∙ outcome-back (Ended e′ t′), cc)
