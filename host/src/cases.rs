@@ -35,6 +35,7 @@ impl Run {
                 "room" => case.room = value,
                 "cells" => case.limits.cells = value as u32,
                 "steps" => case.limits.steps = value as u32,
+                "work" => case.limits.work = value as u32,
                 _ => panic!("{settings} is no setting"),
             }
         }

@@ -198,8 +198,8 @@ module _ (file : List ℕ) (l : Limits) (budget wanted : ℕ) (w o r v p s : Lis
   call-ended a = call-came _ refl (result-small file (limits-of l) budget wanted (length w) (length o)) (a .words) (a .output)
 
 module _ (file : List ℕ) (l m : Limits) (budget budget′ wanted wanted′ : ℕ) (w w′ o o′ : List ℕ) (raised : Raised (given-by l budget wanted w o) (given-by m budget′ wanted′ w′ o′))
-  (r r′ v v′ p p′ s s′ : List ℕ) (a : CallTells file l budget wanted w o r v p s) (b : CallTells file m budget′ wanted′ w′ o′ r′ v′ p′ s′)
-  (five : 5 ≤ length r) (five′ : 5 ≤ length r′) (ended : 20 ≤ word s 0) (ended′ : 20 ≤ word s′ 0) where
+    (r r′ v v′ p p′ s s′ : List ℕ) (a : CallTells file l budget wanted w o r v p s) (b : CallTells file m budget′ wanted′ w′ o′ r′ v′ p′ s′)
+    (five : 5 ≤ length r) (five′ : 5 ≤ length r′) (ended : 20 ≤ word s 0) (ended′ : 20 ≤ word s′ 0) where
   first : CallEnded file l budget wanted w o r v p s
   first = call-ended file l budget wanted w o r v p s a five ended
 
@@ -233,7 +233,7 @@ pub record RunContinued (n n′ : ℕ) (bytes bytes′ : List ℕ) : Type 0 wher
   pub no-more : n / 2 ^ 32 ≡ 20 → (n ≡ n′) × (bytes ≡ bytes′)
 
 module _ (file : List ℕ) (budget budget′ wanted wanted′ : ℕ) (o o′ : List ℕ) (f : budget ≤ budget′) (g : wanted ≤ wanted′) (h : length o ≤ length o′)
-  (n n′ : ℕ) (p p′ : List ℕ) (a : EmbedTells file budget wanted o n p) (b : EmbedTells file budget′ wanted′ o′ n′ p′) where
+    (n n′ : ℕ) (p p′ : List ℕ) (a : EmbedTells file budget wanted o n p) (b : EmbedTells file budget′ wanted′ o′ n′ p′) where
   both-apart : 20 ≤ n / 2 ^ 32 → Apart file budget wanted o n p → Apart file budget′ wanted′ o′ n′ p′ → RunContinued n n′ (written-by n p) (written-by n′ p′)
   both-apart high (refused e few is) y = absurd (omega arith)
   both-apart high (ended k u c gives many long is) (refused e few is′) =

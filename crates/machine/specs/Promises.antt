@@ -180,7 +180,7 @@ pub taken : (b o q : List ℕ) (k : ℕ) → length b ≡ k → q ≡ b ++ drop 
 taken b o q k long is = rw (is, ← long) (sym (take-append-seam b (drop (length b) o)))
 
 module _ (file : List ℕ) (l m : Limits) (budget budget′ wanted wanted′ : ℕ) (w w′ o o′ : List ℕ) (raised : Raised (given-by l budget wanted w o) (given-by m budget′ wanted′ w′ o′))
-  (e e′ : End) (t t′ : Totals) (v v′ q q′ : List ℕ) (a : Called file l budget wanted w o (Ended e t) v q) (b : Called file m budget′ wanted′ w′ o′ (Ended e′ t′) v′ q′) where
+    (e e′ : End) (t t′ : Totals) (v v′ q q′ : List ℕ) (a : Called file l budget wanted w o (Ended e t) v q) (b : Called file m budget′ wanted′ w′ o′ (Ended e′ t′) v′ q′) where
   first : Left file l budget wanted w o (t .answers) (t .units) (t .bytes) (end-number e) v q
   first = called-ended file l budget wanted w o e t v q a
 
