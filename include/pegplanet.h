@@ -43,7 +43,9 @@ enum {
     PEGPLANET_REFUSED_AFTER_END = 9  /* bytes after the end record */
 };
 
-/* How a run ended. After 20 and 21 the answers are what was asked for; after the others there may be more of them. */
+/* How a run ended. After 20 and 21 the answers are what was asked for; after the others there may be more of them. A call with the same file and
+ * no less of cells, steps, work, budget, wanted answers and output, where it is not refused for its limits or its scratch, writes the same bytes
+ * first and goes on from there; after 20 it tells and writes the same. */
 enum {
     PEGPLANET_END_NO_MORE = 20, /* every choice is used up */
     PEGPLANET_END_WANTED = 21,  /* as many answers as wanted are written */

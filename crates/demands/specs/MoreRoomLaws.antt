@@ -22,10 +22,10 @@ use Rattle.meaning.specs.Moves.{nothing, spend, list, asked, pairs, with-bindin
 use Rattle.meaning.specs.Call.{Result, refusal, end, in-range, needed, ending, run-read, result-by}
 use Rattle.meaning.specs.Embedded.{embedded-limits, embedded-scratch, room-limit, embedded-in, embedded-by}
 use Rattle.laws.specs.IfLaws.{if-by, if-true, if-false}
-use Rattle.demands.specs.Stops.{fitting-unfit, unfit-range, ReachedFrom, started, moved}
+use Rattle.demands.specs.Stops.{fitting-unfit, unfit-range, started, moved}
 use Rattle.demands.specs.Rooms.{output-append, never-fits}
-use Rattle.demands.specs.Theorems.{not-refused, Accepted, result-read}
-use Rattle.demands.specs.MoreRoom.{Given, called, Raised, BeginningOf, Continued, MoreRoom, RefusedFor, MoreRoomEmbedded, RefusedAlike, Reaches, Goes, MoveByMove}
+use Rattle.demands.specs.Theorems.{not-refused, result-read}
+use Rattle.demands.specs.MoreRoom.{Given, Raised, BeginningOf, Continued, MoreRoom, RefusedFor, MoreRoomEmbedded, RefusedAlike, Reaches, Goes, MoveByMove}
 
 -- ---- beginnings
 begins-itself : {A : Type 0} (xs : List A) → BeginningOf xs xs
@@ -91,7 +91,7 @@ answered-since R a cs d l =
     (λ p. fail-since (a .wanted) cs d (let n = eqb-false (length (d .listed)) (a .wanted) p in omega arith))
 
 raised-itself : (a : Given) → Raised a a
-raised-itself a = record { cells = omega arith; steps = omega arith; work = omega arith; budget = omega arith; wanted = omega arith; room = omega arith }
+raised-itself a = omega arith
 
 module _ (R : Rules) (a b : Given) (r : Raised a b) where
   -- What comes of d as the one and as the other is given: the same; or an end of the first, not 20, and what comes of the second goes on
@@ -100,7 +100,7 @@ module _ (R : Rules) (a b : Given) (r : Raised a b) where
     same : {s : State} → Since (a .wanted) d s → Beside d s s
     stopped : {e : ℕ} {c : Done} {t : State} → e ≢ 20 → Kept d c → Since (b .wanted) c t → Beside d (ended e c) t
 
-  -- the same of what is given, where fewer answers are listed than the first wants
+  -- so with what f gives for the one and for the other, where fewer answers are listed than the first wants
   abbrev Both : Done → (Given → State) → Type 0
   Both d f = length (d .listed) < a .wanted → Beside d (f a) (f b)
 
@@ -258,8 +258,8 @@ module _ (R : Rules) (a : Given) where
 
 -- ---- two runs
 -- what the first has done is kept by the second, and where the first comes to 20 they are the same
-abbrev Before : ℕ × Done → ℕ × Done → Type 0
-Before p q = Kept (p .1) (q .1) × (p .0 ≡ 20 → p ≡ q)
+abbrev Keeps : ℕ × Done → ℕ × Done → Type 0
+Keeps p q = Kept (p .1) (q .1) × (p .0 ≡ 20 → p ≡ q)
 
 module _ (R : Rules) (a b : Given) (r : Raised a b) where
   start-beside : (h : ℕ) → Beside R a b r nothing (starts R a h) (starts R b h)
@@ -273,21 +273,21 @@ module _ (R : Rules) (a b : Given) (r : Raised a b) where
       (limit-beside R a b r nothing 23 _ _ (omega arith) (ltb-raised _ _ _ (r .cells))
       (go-on-beside R a b r (asked R h) [] nothing (omega arith))))
 
-  beside-before : (left left′ : ℕ) {d : Done} {s t : State}
-      → ((u : State) → Since (a .wanted) d u → Before (runs R a left u) (runs R b left′ u))
-      → Beside R a b r d s t → Before (runs R a left s) (runs R b left′ t)
-  beside-before left left′ f (same {s} k) = f s k
-  beside-before left left′ f (stopped {e} {c} {t} n k j) =
-      subst (λ (p : ℕ × Done). Before p (runs R b left′ t)) (sym (run-ended R a left e c)) (run-since R b left′ c t j, λ q. absurd (n q))
+  beside-keeps : (left left′ : ℕ) {d : Done} {s t : State}
+      → ((u : State) → Since (a .wanted) d u → Keeps (runs R a left u) (runs R b left′ u))
+      → Beside R a b r d s t → Keeps (runs R a left s) (runs R b left′ t)
+  beside-keeps left left′ f (same {s} k) = f s k
+  beside-keeps left left′ f (stopped {e} {c} {t} n k j) =
+      subst (λ (p : ℕ × Done). Keeps p (runs R b left′ t)) (sym (run-ended R a left e c)) (run-since R b left′ c t j, λ q. absurd (n q))
 
-  run-before : (left left′ : ℕ) → left ≤ left′ → (d : Done) (s : State) → Since (a .wanted) d s
-      → Before (runs R a left s) (runs R b left′ s)
+  run-keeps : (left left′ : ℕ) → left ≤ left′ → (d : Done) (s : State) → Since (a .wanted) d s
+      → Keeps (runs R a left s) (runs R b left′ s)
   unfolding run spend
-  run-before zero left′ h d (ended e c) k = rw (run-ended R b left′ e c) (kept-itself c, λ q. refl)
-  run-before zero left′ h d (due m c) (k, l) = let g = r .wanted in (run-since R b left′ c (due m c) (kept-itself c, omega arith), λ q. absurd (omega arith))
-  run-before (suc left) zero h d s k = absurd (omega arith)
-  run-before (suc left) (suc left′) h d (ended e c) k = (kept-itself c, λ q. refl)
-  run-before (suc left) (suc left′) h d (due m c) (k, l) = beside-before left left′ (run-before left left′ (omega arith) (spend c)) (move-beside R a b r m (spend c) l)
+  run-keeps zero left′ h d (ended e c) k = rw (run-ended R b left′ e c) (kept-itself c, λ q. refl)
+  run-keeps zero left′ h d (due m c) (k, l) = let g = r .wanted in (run-since R b left′ c (due m c) (kept-itself c, omega arith), λ q. absurd (omega arith))
+  run-keeps (suc left) zero h d s k = absurd (omega arith)
+  run-keeps (suc left) (suc left′) h d (ended e c) k = (kept-itself c, λ q. refl)
+  run-keeps (suc left) (suc left′) h d (due m c) (k, l) = beside-keeps left left′ (run-keeps left left′ (omega arith) (spend c)) (move-beside R a b r m (spend c) l)
 
   -- a state that is not stopped by what the first was given
   beside-goes : (P : State → Type 0) {d : Done} {s t : State} → Beside R a b r d s t → Goes s → P t → P s
@@ -303,7 +303,7 @@ move-by-move E R a b r s g (moved {m = m} {d = d} i l) =
     beside-goes R a b r (Reaches E R b) (move-beside R a b r m (spend d) f) g (moved (move-by-move E R a b r (due m d) tt i) (omega arith))
 
 -- ---- two calls
-ending-continued : (p q : ℕ × Done) (e n u e′ n′ u′ : ℕ) (w w′ : List ℕ) → Before p q → ending p ≡ end e n u w → ending q ≡ end e′ n′ u′ w′ → Continued e n u w e′ n′ u′ w′
+ending-continued : (p q : ℕ × Done) (e n u e′ n′ u′ : ℕ) (w w′ : List ℕ) → Keeps p q → ending p ≡ end e n u w → ending q ≡ end e′ n′ u′ w′ → Continued e n u w e′ n′ u′ w′
 unfolding ending
 ending-continued p q e n u e′ n′ u′ w w′ (((bs, more), units), twin) x y =
     let number : p .0 ≡ e = cc in
@@ -329,7 +329,7 @@ unfolding run-read
 read-continued E (refused m q) a b r e n u e′ n′ u′ w w′ x y = absurd (not-refused m q e n u w x)
 read-continued E (read R seen at) a b r e n u e′ n′ u′ w w′ x y =
     ending-continued _ _ e n u e′ n′ u′ w w′
-    (beside-before R a b r (a .budget) (b .budget) (run-before R a b r (a .budget) (b .budget) (r .budget) nothing) (start-beside R a b r (E .query-keeps))) x y
+    (beside-keeps R a b r (a .budget) (b .budget) (run-keeps R a b r (a .budget) (b .budget) (r .budget) nothing) (start-beside R a b r (E .query-keeps))) x y
 
 pub more-room : MoreRoom
 more-room E file a b r e n u w x e′ n′ u′ w′ y =

@@ -1,5 +1,6 @@
 /* The header, as a C99 and as a C++ program: its constants are the documents' numbers, its functions take a packed number apart, walk through case
- * A's answers and put case A's query into its rules, and the library's functions take each buffer as NULL and each length of a result. */
+ * A's answers and put case A's query into its rules, and the library's functions take each buffer as NULL and each length of a result. Case A is
+ * asked again with more of everything. */
 #include "pegplanet.h"
 #include "pegplanet.h"
 
@@ -315,14 +316,18 @@ static void answers(void) {
     same("arity beyond the file", pegplanet_arity(append_rules, RULES, 65535), 0);
 }
 
+static void copy_append(uint8_t *file) {
+    memcpy(file, append_rules, BEFORE);
+    memcpy(file + BEFORE, append_query, sizeof append_query);
+}
+
 /* Case A by name: the words of the result are the fields. */
 static void asked(void) {
     static uint32_t words[PEGPLANET_SCRATCH_WORDS(APPEND, 10, 2, 8)];
     uint8_t file[APPEND], output[ROOM];
     struct pegplanet_request request = {file, APPEND, 10, 2, 8, 18, 3, words, sizeof words / sizeof *words, output, ROOM};
     struct pegplanet_result result;
-    memcpy(file, append_rules, BEFORE);
-    memcpy(file + BEFORE, append_query, sizeof append_query);
+    copy_append(file);
     result = pegplanet_ask(&request);
     same("end by name", result.number, PEGPLANET_END_NO_MORE);
     same("place by name", result.place, 0);
@@ -337,6 +342,48 @@ static void asked(void) {
     same("its answers by name", result.answers + result.units + result.bytes, 0);
 }
 
+/* What was written with less stands first, and there is no less of it. */
+static uint64_t again(const char *what, uint64_t before, struct pegplanet_result result, const uint8_t *output) {
+    same(what, result.bytes >= before, 1);
+    same(what, (uint64_t)memcmp(output, append_answers, result.bytes), 0);
+    return result.bytes;
+}
+
+/* Case A, with each number from the least on, the others being as large as it needs (the work that it needs is the least there is); and with more
+ * of all six. */
+static void asked_again(void) {
+    static uint32_t words[PEGPLANET_SCRATCH_WORDS(APPEND, 100, 20, 80)];
+    uint8_t file[APPEND], output[10 * ROOM];
+    const struct pegplanet_request enough = {file, APPEND, 10, 2, 8, 18, 3, words, sizeof words / sizeof *words, output, ROOM};
+    struct pegplanet_request request = enough;
+    uint64_t before[5] = {0, 0, 0, 0, 0};
+    struct pegplanet_result result;
+    uint32_t number;
+    copy_append(file);
+    for (number = 0; number <= ROOM; number++) {
+        request = enough, request.budget = number;
+        before[0] = again("more budget", before[0], pegplanet_ask(&request), output);
+        request = enough, request.wanted = number;
+        before[1] = again("more wanted", before[1], pegplanet_ask(&request), output);
+        request = enough, request.out_len = number;
+        before[2] = again("more output", before[2], pegplanet_ask(&request), output);
+        if (number >= 1 && number <= 20) {
+            request = enough, request.steps = number;
+            before[3] = again("more steps", before[3], pegplanet_ask(&request), output);
+            request = enough, request.cells = number;
+            before[4] = again("more cells", before[4], pegplanet_ask(&request), output);
+        }
+    }
+    for (number = 0; number < 5; number++) {
+        same("all bytes in the end", before[number], ROOM);
+    }
+    request.cells = 100, request.steps = 20, request.work = 80, request.budget = 180, request.wanted = 30, request.out_len = 10 * ROOM;
+    result = pegplanet_ask(&request);
+    same("no more again", result.number, PEGPLANET_END_NO_MORE);
+    same("units again", result.units, 18);
+    same("bytes again", again("more of all", ROOM, result, output), ROOM);
+}
+
 int main(void) {
     constants();
     packed_numbers();
@@ -347,5 +394,6 @@ int main(void) {
     queries();
     answers();
     asked();
+    asked_again();
     return failed;
 }
