@@ -3,7 +3,7 @@
 -- file, and that where they are given no less they write what they wrote and go on from there.
 -- Assumes nothing.
 use Prim.Native.Nat.{ℕ, _+_, _*_, _/_, _%_, _^_, _≤_, _<_, min}
-use mathlib.Core.Path.{_≡_, refl, sym, ap, ap₂, _∙_}
+use mathlib.Core.Path.{_≡_, refl, sym, ap, ap₂, _∙_, subst}
 use mathlib.Core.List.{List, [], _∷_, _++_}
 use native.Mathlib.Omega.{arith}
 use lib.Dec.{ltb}
@@ -23,13 +23,13 @@ use Rattle.demands.specs.Proofs.{NoCut, Uncut}
 use Rattle.demands.specs.Demands.{SaysWithin, Says, LeavesBy, Ends, Correct, Complete}
 use Rattle.demands.specs.Rooms.{Small, result-small}
 use Rattle.demands.specs.MoreRoom.{BeginningOf, Raised, Continued}
-use Rattle.demands.specs.MoreRoomLaws.{more-room, more-room-embedded, refused-alike}
+use Rattle.demands.specs.MoreRoomLaws.{more-room-embedded, refused-alike}
 use Rattle.demands.specs.Theorems.{not-refused, third-demand, third-demand-with-cut}
 use Rattle.demands.specs.LargerLaws.{accepted-before, same-result as larger-result, same-embedded as larger-embedded}
 use Rattle.demands.specs.QueryCutLaws.{same-result as cut-result, same-embedded as cut-embedded, settled-result, settled-embedded, at-most-one}
 use Rattle.reading.specs.Verdict.{verdict}
 use Rattle.machine.specs.Calling.{limits-of, result-of}
-use Rattle.machine.specs.Promises.{given-by, taken}
+use Rattle.machine.specs.Promises.{Left, came, given-by, taken, left-continued, left-same}
 use Rattle.search.specs.declared.Limits.{Limits}
 use Rattle.embedded.specs.Checking.{checked-number}
 use Rattle.embedded.specs.Telling.{told-four, told-all, told, CallTells, EmbedTells}
@@ -173,54 +173,38 @@ five-told n place answers units bytes (_ ∷ _ ∷ _ ∷ []) h = absurd (omega a
 five-told n place answers units bytes (_ ∷ _ ∷ _ ∷ _ ∷ []) h = absurd (omega arith)
 five-told n place answers units bytes (_ ∷ _ ∷ _ ∷ _ ∷ _ ∷ r) h = (refl, refl, refl, refl, refl)
 
-module _ (file : List ℕ) (l : Limits) (budget wanted : ℕ) (w o r v p s : List ℕ) where
-  -- what a result of five words or more tells of a call that was not refused, and the bytes that stand in the output
-  pub record CallEnded : Type 0 where
-    pub written : List ℕ
-    pub gives : result-of file l budget wanted w o ≡ end (word s 0) (word s 2) (word s 3) written
-    pub long : length written ≡ word s 4
-    pub output-is : p ≡ written ++ drop (word s 4) o
+-- what a result of five words or more tells of a call that was not refused, with what it left
+module _ (file : List ℕ) (l : Limits) (budget wanted : ℕ) (w o r v p s : List ℕ) (a : CallTells file l budget wanted w o r v p s) (five : 5 ≤ length r) (high : 20 ≤ word s 0) where
+  call-came : (x : Result) → result-of file l budget wanted w o ≡ x → Left file l budget wanted w o (word s 2) (word s 3) (word s 4) (word s 0) v p
+  unfolding told to-say
+  call-came (refusal n q) g =
+      let number = ap (λ (t : List ℕ). word t 0) (a .words ∙ ap (λ (x : Result). told (to-say x) r) g) ∙ five-told n q 0 0 0 r five .0 in
+      let small = subst (Small file (length o)) g (result-small file (limits-of l) budget wanted (length w) (length o)) in
+      let most = small .1 in
+      absurd (omega arith)
+  call-came (end e n u b) g =
+      let said : s ≡ told-all e 0 n u (length b) r = a .words ∙ ap (λ (x : Result). told (to-say x) r) g in
+      let (f₀, f₁, f₂, f₃, f₄) = five-told e 0 n u (length b) r five in
+      let small = subst (Small file (length o)) g (result-small file (limits-of l) budget wanted (length w) (length o)) in
+      rw (said, f₀, f₂, f₃, f₄, a .scratch, a .output, g) (came file l budget wanted w o (end e n u b) g small)
 
-  call-came : (x : Result) → result-of file l budget wanted w o ≡ x → Small file (length o) x → s ≡ told (to-say x) r → p ≡ output-after x o → 5 ≤ length r → 20 ≤ word s 0 → CallEnded
-  unfolding told to-say output-after
-  call-came (refusal n q) g small words out h k = let f = five-told n q 0 0 0 r h .0 in let most = small .1 in let told = ap (λ (t : List ℕ). word t 0) words in absurd (omega arith)
-  call-came (end e n u b) g small words out h k =
-      let (f₀, f₁, f₂, f₃, f₄) = five-told e 0 n u (length b) r h in
-      let said : s ≡ told-all e 0 n u (length b) r = words in
-      record {
-        written = b;
-        gives = g ∙ rw (said, f₀, f₂, f₃) refl;
-        long = rw (said, f₄) refl;
-        output-is = rw (said, f₄) out;
-      }
-
-  pub call-ended : CallTells file l budget wanted w o r v p s → 5 ≤ length r → 20 ≤ word s 0 → CallEnded
-  call-ended a = call-came _ refl (result-small file (limits-of l) budget wanted (length w) (length o)) (a .words) (a .output)
+  pub call-left : Left file l budget wanted w o (word s 2) (word s 3) (word s 4) (word s 0) v p
+  call-left = call-came _ refl
 
 module _ (file : List ℕ) (l m : Limits) (budget budget′ wanted wanted′ : ℕ) (w w′ o o′ : List ℕ) (raised : Raised (given-by l budget wanted w o) (given-by m budget′ wanted′ w′ o′))
     (r r′ v v′ p p′ s s′ : List ℕ) (a : CallTells file l budget wanted w o r v p s) (b : CallTells file m budget′ wanted′ w′ o′ r′ v′ p′ s′)
-    (five : 5 ≤ length r) (five′ : 5 ≤ length r′) (ended : 20 ≤ word s 0) (ended′ : 20 ≤ word s′ 0) where
-  first : CallEnded file l budget wanted w o r v p s
-  first = call-ended file l budget wanted w o r v p s a five ended
-
-  second : CallEnded file m budget′ wanted′ w′ o′ r′ v′ p′ s′
-  second = call-ended file m budget′ wanted′ w′ o′ r′ v′ p′ s′ b five′ ended′
-
-  continued : Continued (word s 0) (word s 2) (word s 3) (first .written) (word s′ 0) (word s′ 2) (word s′ 3) (second .written)
-  continued = more-room todays file _ _ raised (word s 0) (word s 2) (word s 3) (first .written) (first .gives) (word s′ 0) (word s′ 2) (word s′ 3) (second .written) (second .gives)
-
+    (five : 5 ≤ length r) (five′ : 5 ≤ length r′) (high : 20 ≤ word s 0) (high′ : 20 ≤ word s′ 0) where
   -- what the first wrote, by its result, is the beginning of what the second wrote
   pub call-continued : Continued (word s 0) (word s 2) (word s 3) (take (word s 4) p) (word s′ 0) (word s′ 2) (word s′ 3) (take (word s′ 4) p′)
   call-continued =
-      rw (← taken (first .written) o p (word s 4) (first .long) (first .output-is), ← taken (second .written) o′ p′ (word s′ 4) (second .long) (second .output-is)) continued
+      left-continued file l m budget budget′ wanted wanted′ w w′ o o′ raised
+      (call-left file l budget wanted w o r v p s a five high) (call-left file m budget′ wanted′ w′ o′ r′ v′ p′ s′ b five′ high′)
 
   -- and where the first came to 20, both results tell the same
   pub call-no-more : word s 0 ≡ 20 → (y : Said) × (s ≡ told y r) × (s′ ≡ told y r′)
-  call-no-more n = (
-    to-say (result-of file l budget wanted w o),
-    a .words,
-    b .words ∙ ap (λ (x : Result). told (to-say x) r′) (second .gives ∙ sym (continued .no-more n) ∙ sym (first .gives)),
-  )
+  call-no-more n =
+      let same = left-same file l m budget budget′ wanted wanted′ w w′ o o′ raised (call-left file l budget wanted w o r v p s a five high) (call-left file m budget′ wanted′ w′ o′ r′ v′ p′ s′ b five′ high′) n in
+      (to-say (result-of file l budget wanted w o), a .words, b .words ∙ ap (λ (x : Result). told (to-say x) r′) (sym same))
 
 -- the bytes that the embedded form wrote, by its number
 abbrev pub written-by : ℕ → List ℕ → List ℕ

@@ -105,11 +105,11 @@ module _ (file : List ℕ) (l : Limits) (budget wanted : ℕ) (w o : List ℕ) w
     pub scratch : v ≡ replicate (needed (length file) (limits-of l)) 0 ++ drop (needed (length file) (limits-of l)) w
     pub output-is : q ≡ written ++ drop size o
 
-  abbrev Came : Said → List ℕ → List ℕ → Type 0
+  abbrev pub Came : Said → List ℕ → List ℕ → Type 0
   Came (refused-as n p) v q = Unit {0}
   Came (ended-as e n u b) v q = Left n u b e v q
 
-  came : (y : Result) → x ≡ y → Small file (length o) y → Came (to-say y) (scratch-after y (needed (length file) (limits-of l)) w) (output-after y o)
+  pub came : (y : Result) → x ≡ y → Small file (length o) y → Came (to-say y) (scratch-after y (needed (length file) (limits-of l)) w) (output-after y o)
   unfolding to-say scratch-after output-after
   came (refusal n p) g s = tt
   came (end e n u b) g s = record { written = b; gives = g; long = refl; within = s .2; scratch = refl; output-is = refl }
@@ -171,7 +171,7 @@ module _ (file : List ℕ) (l : Limits) (budget wanted : ℕ) (w o : List ℕ) w
         let (listed, b, n, c) = third-demand-with-cut R (end-number e) (t .answers) (t .units) (k .written) ends in
         (listed, wrote listed (k .written) b n (k .long) (k .output-is), c)
 
--- ---- 2026-14: two calls with the same file, neither of which is refused, and the second is given no less
+-- ---- 2026-14: two calls with the same file, of which the second is given no less, and neither is refused
 abbrev pub given-by : Limits → ℕ → ℕ → List ℕ → List ℕ → Given
 given-by l budget wanted w o = record { limits = limits-of l; budget = budget; wanted = wanted; scratch = length w; room = length o }
 
@@ -179,26 +179,27 @@ given-by l budget wanted w o = record { limits = limits-of l; budget = budget; w
 pub taken : (b o q : List ℕ) (k : ℕ) → length b ≡ k → q ≡ b ++ drop k o → b ≡ take k q
 taken b o q k long is = rw (is, ← long) (sym (take-append-seam b (drop (length b) o)))
 
-module _ (file : List ℕ) (l m : Limits) (budget budget′ wanted wanted′ : ℕ) (w w′ o o′ : List ℕ) (raised : Raised (given-by l budget wanted w o) (given-by m budget′ wanted′ w′ o′))
-    (e e′ : End) (t t′ : Totals) (v v′ q q′ : List ℕ) (a : Called file l budget wanted w o (Ended e t) v q) (b : Called file m budget′ wanted′ w′ o′ (Ended e′ t′) v′ q′) where
-  first : Left file l budget wanted w o (t .answers) (t .units) (t .bytes) (end-number e) v q
-  first = called-ended file l budget wanted w o e t v q a
+module _ (file : List ℕ) (l m : Limits) (budget budget′ wanted wanted′ : ℕ) (w w′ o o′ : List ℕ) (raised : Raised (given-by l budget wanted w o) (given-by m budget′ wanted′ w′ o′)) where
+  -- by what both calls left
+  module _ {e n u k e′ n′ u′ k′ : ℕ} {v q v′ q′ : List ℕ} (x : Left file l budget wanted w o n u k e v q) (y : Left file m budget′ wanted′ w′ o′ n′ u′ k′ e′ v′ q′) where
+    continued : Continued e n u (x .written) e′ n′ u′ (y .written)
+    continued = more-room todays file _ _ raised e n u (x .written) (x .gives) e′ n′ u′ (y .written) (y .gives)
 
-  second : Left file m budget′ wanted′ w′ o′ (t′ .answers) (t′ .units) (t′ .bytes) (end-number e′) v′ q′
-  second = called-ended file m budget′ wanted′ w′ o′ e′ t′ v′ q′ b
+    pub left-continued : Continued e n u (take k q) e′ n′ u′ (take k′ q′)
+    left-continued = rw (← taken (x .written) o q k (x .long) (x .output-is), ← taken (y .written) o′ q′ k′ (y .long) (y .output-is)) continued
 
-  continued : Continued (end-number e) (t .answers) (t .units) (first .written) (end-number e′) (t′ .answers) (t′ .units) (second .written)
-  continued = more-room todays file _ _ raised (end-number e) (t .answers) (t .units) (first .written) (first .gives) (end-number e′) (t′ .answers) (t′ .units) (second .written) (second .gives)
+    pub left-same : e ≡ 20 → result-of file l budget wanted w o ≡ result-of file m budget′ wanted′ w′ o′
+    left-same h = x .gives ∙ continued .no-more h ∙ sym (y .gives)
 
-  -- what the first wrote is the beginning of what the second wrote
-  pub called-continued : Continued (end-number e) (t .answers) (t .units) (take (t .bytes) q) (end-number e′) (t′ .answers) (t′ .units) (take (t′ .bytes) q′)
-  called-continued =
-      rw (← taken (first .written) o q (t .bytes) (first .long) (first .output-is), ← taken (second .written) o′ q′ (t′ .bytes) (second .long) (second .output-is)) continued
+  module _ (e e′ : End) (t t′ : Totals) (v v′ q q′ : List ℕ) (a : Called file l budget wanted w o (Ended e t) v q) (b : Called file m budget′ wanted′ w′ o′ (Ended e′ t′) v′ q′) where
+    -- what the first wrote is the beginning of what the second wrote
+    pub called-continued : Continued (end-number e) (t .answers) (t .units) (take (t .bytes) q) (end-number e′) (t′ .answers) (t′ .units) (take (t′ .bytes) q′)
+    called-continued = left-continued (called-ended file l budget wanted w o e t v q a) (called-ended file m budget′ wanted′ w′ o′ e′ t′ v′ q′ b)
 
-  -- and where the first came to no more, so did the second, with the same totals and the same bytes
-  pub called-no-more : e ≡ NoMore → (Ended e t ≡ Ended e′ t′) × (take (t .bytes) q ≡ take (t′ .bytes) q′)
-  unfolding end-number
-  called-no-more n =
-      let same = first .gives ∙ continued .no-more (ap end-number n) ∙ sym (second .gives) in
-      let bytes = called-continued .no-more (ap end-number n) in
-      (sym (outcome-back (Ended e t)) ∙ ap outcome-of (a .outcome ∙ ap to-say same ∙ sym (b .outcome)) ∙ outcome-back (Ended e′ t′), cc)
+    -- and where the first came to no more, so did the second, with the same totals and the same bytes
+    pub called-no-more : e ≡ NoMore → (Ended e t ≡ Ended e′ t′) × (take (t .bytes) q ≡ take (t′ .bytes) q′)
+    unfolding end-number
+    called-no-more n =
+        let same = left-same (called-ended file l budget wanted w o e t v q a) (called-ended file m budget′ wanted′ w′ o′ e′ t′ v′ q′ b) (ap end-number n) in
+        let bytes = called-continued .no-more (ap end-number n) in
+        (sym (outcome-back (Ended e t)) ∙ ap outcome-of (a .outcome ∙ ap to-say same ∙ sym (b .outcome)) ∙ outcome-back (Ended e′ t′), cc)
