@@ -86,7 +86,7 @@ fn by_the_whole_call() {
 
 #[test]
 fn by_the_embedded_form() {
-    // All but the five runs of case A with fewer cells or steps.
+    // All but the eleven runs that say their cells, steps or work.
     assert_eq!(embedded_forms(&programs()), 38);
     // None of many facts, and none with fewer cells.
     assert_eq!(embedded_forms(&boundaries()), 34);
