@@ -1,5 +1,5 @@
 -- 2026-14, more room, same answers: where a call is given no less of anything, it writes what it wrote and goes on from there. A reader needs
--- document 01's definitions, and no proof: that each statement holds is in `MoreRoomLaws`.
+-- document 01's definitions, for the last statement `Stops.ReachedFrom`, and no proof: that each statement holds is in `MoreRoomLaws`.
 --
 -- It speaks of `Call.result-by` and `Embedded.embedded-by`, with cut or without, for every edition: so of `Call.result` and `Embedded.embedded`,
 -- which are today's. A request that changes these changes what is stated here, and the theorems have to hold anew.
