@@ -1,5 +1,6 @@
--- 2026-14, more room, same answers: where a call is given no less of anything, it writes what it wrote and goes on from there. A reader needs
--- document 01's definitions, for the last statement `Stops.ReachedFrom`, and no proof: that each statement holds is in `MoreRoomLaws`.
+-- 2026-14, more room, same answers: where a call is given no less of anything, and is not refused, it writes what it wrote and goes on from
+-- there. A reader needs document 01's definitions, for the last two statements `Stops.ReachedFrom` and `Stops.spent`, and no proof: that each
+-- statement holds is in `MoreRoomLaws`.
 --
 -- It speaks of `Call.result-by` and `Embedded.embedded-by`, with cut or without, for every edition: so of `Call.result` and `Embedded.embedded`,
 -- which are today's. A request that changes these changes what is stated here, and the theorems have to hold anew.
@@ -13,7 +14,7 @@ use Rattle.meaning.specs.Rules.{Rules}
 use Rattle.meaning.specs.Moves.{Limits, State, ended, due, start-keeping}
 use Rattle.meaning.specs.Call.{Result, refusal, end, result-by}
 use Rattle.meaning.specs.Embedded.{embedded-by}
-use Rattle.demands.specs.Stops.{ReachedFrom}
+use Rattle.demands.specs.Stops.{spent, ReachedFrom}
 
 -- what a call is given besides its file
 pub record Given : Type 0 where
@@ -82,3 +83,7 @@ Goes (due m d) = Unit {0}
 -- Each such state of the first run, a move that is due or no more, with the answers listed and the units spent, is one of the second
 abbrev pub MoveByMove : Type 0
 MoveByMove = (E : Edition) (R : Rules) (a b : Given) → Raised a b → (s : State) → Goes s → Reaches E R a s → Reaches E R b s
+
+-- and so, where as many units are spent, the second run's state is the first's
+abbrev pub SameStates : Type 0
+SameStates = (E : Edition) (R : Rules) (a b : Given) → Raised a b → (s t : State) → Goes s → Reaches E R a s → Reaches E R b t → spent t ≡ spent s → t ≡ s

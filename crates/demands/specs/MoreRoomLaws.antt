@@ -22,10 +22,10 @@ use Rattle.meaning.specs.Moves.{nothing, spend, list, asked, pairs, with-bindin
 use Rattle.meaning.specs.Call.{Result, refusal, end, in-range, needed, ending, run-read, result-by}
 use Rattle.meaning.specs.Embedded.{embedded-limits, embedded-scratch, room-limit, embedded-in, embedded-by}
 use Rattle.laws.specs.IfLaws.{if-by, if-true, if-false}
-use Rattle.demands.specs.Stops.{fitting-unfit, unfit-range, started, moved}
+use Rattle.demands.specs.Stops.{fitting-unfit, unfit-range, started, moved, reached-once}
 use Rattle.demands.specs.Rooms.{output-append, never-fits}
 use Rattle.demands.specs.Theorems.{not-refused, result-read}
-use Rattle.demands.specs.MoreRoom.{Given, Raised, BeginningOf, Continued, MoreRoom, RefusedFor, MoreRoomEmbedded, RefusedAlike, Reaches, Goes, MoveByMove}
+use Rattle.demands.specs.MoreRoom.{Given, Raised, BeginningOf, Continued, MoreRoom, RefusedFor, MoreRoomEmbedded, RefusedAlike, Reaches, Goes, MoveByMove, SameStates}
 
 -- ---- beginnings
 begins-itself : {A : Type 0} (xs : List A) → BeginningOf xs xs
@@ -301,6 +301,9 @@ move-by-move E R a b r s g (moved {m = m} {d = d} i l) =
     let (k, f) = reached-since R a E i in
     let h = r .budget in
     beside-goes R a b r (Reaches E R b) (move-beside R a b r m (spend d) f) g (moved (move-by-move E R a b r (due m d) tt i) (omega arith))
+
+pub same-states : SameStates
+same-states E R a b r s t g i j e = reached-once R (b .limits) (b .wanted) (b .room) j (move-by-move E R a b r s g i) e
 
 -- ---- two calls
 ending-continued : (p q : ℕ × Done) (e n u e′ n′ u′ : ℕ) (w w′ : List ℕ) → Keeps p q → ending p ≡ end e n u w → ending q ≡ end e′ n′ u′ w′ → Continued e n u w e′ n′ u′ w′

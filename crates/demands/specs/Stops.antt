@@ -2,7 +2,7 @@
 -- Assumes nothing.
 use Prim.Native.Nat.{ℕ, zero, suc, _+_, _-_, _≤_, _<_}
 use mathlib.Core.Bool.{Bool, true, false, not}
-use mathlib.Core.Path.{_≡_, refl, ap, sym, subst}
+use mathlib.Core.Path.{_≡_, refl, ap, ap₂, sym, subst}
 use mathlib.Core.List.{List, [], _∷_, _++_}
 use mathlib.Core.Option.{Option, none, some}
 use native.Mathlib.Omega.{arith}
@@ -240,6 +240,23 @@ module _ (R : Rules) (L : Limits) (wanted room : ℕ) where
   pub move-spends : (m : Move) (d : Done) → spent (move R L wanted room m (spend d)) ≡ spent (due m d) + 1
   unfolding spent spend
   move-spends m d = comes-spent (move-comes m (spend d))
+
+  -- so from one state no other is reached with the same units
+  reached-spent : {s t : State} {budget : ℕ} → ReachedFrom s budget t → spent s ≤ spent t
+  reached-spent started = omega arith
+  reached-spent (moved {m = m} {d = d} i l) = let h = reached-spent i in let k = move-spends m d in omega arith
+
+  pub reached-once : {s t u : State} {budget : ℕ} → ReachedFrom s budget t → ReachedFrom s budget u → spent t ≡ spent u → t ≡ u
+  reached-once started started e = refl
+  reached-once started (moved {m = m} {d = d} j l) e = let h = reached-spent j in let k = move-spends m d in absurd (omega arith)
+  reached-once (moved {m = m} {d = d} i l) started e = let h = reached-spent i in let k = move-spends m d in absurd (omega arith)
+  reached-once (moved {m = m} {d = d} i l) (moved {m = n} {d = c} j k) e =
+      let g = move-spends m d in
+      let h = move-spends n c in
+      let same : due m d ≡ due n c = reached-once i j (omega arith) in
+      let moves : m ≡ n = cc in
+      let done : d ≡ c = cc in
+      ap₂ (λ (x : Move) (y : Done). move R L wanted room x (spend y)) moves done
 
   pub start-spends : spent (start R L wanted room) ≡ 0
   unfolding nothing

@@ -1,6 +1,6 @@
 -- What follows from the promises of the exported functions: one content of every buffer and one number, what the two halves of the number
 -- say, the third demand for what the embedded form wrote, that they do what they did where a request of document 02 changed nothing for a
--- file, and that where they are given no less they write what they wrote and go on from there.
+-- file, and that where they are given no less and do not refuse they write what they wrote and go on from there.
 -- Assumes nothing.
 use Prim.Native.Nat.{ℕ, _+_, _*_, _/_, _%_, _^_, _≤_, _<_, min}
 use mathlib.Core.Path.{_≡_, refl, sym, ap, ap₂, _∙_, subst}

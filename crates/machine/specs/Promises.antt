@@ -1,7 +1,7 @@
 -- What follows from the promise of the whole call: there is one outcome and one content of each buffer; a refusal leaves everything as
 -- it was; an end leaves the needed scratch zero and the rest of it and of the output unchanged; what the function wrote is complete;
--- where a request of document 02 changed nothing for a file, it leaves what it left before; and where it is given no less, it writes what it
--- wrote and goes on from there.
+-- where a request of document 02 changed nothing for a file, it leaves what it left before; and where it is given no less and does not
+-- refuse, it writes what it wrote and goes on from there.
 -- Assumes nothing.
 use Prim.Native.Nat.{ℕ, _≤_}
 use mathlib.Core.Path.{_≡_, refl, sym, ap, ap₂, _∙_, subst}
