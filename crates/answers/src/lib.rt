@@ -1,4 +1,6 @@
 // Writing an answer: it is measured first, and written only where it fits.
+#![tactic(auto)]
+
 ghost use Rattle.std.specs.Prelude.{◌≡◌, ◌-◌, ◌%◌, set};
 ghost use Rattle.answers.specs.Written.{two_put, record_put, recorded, first_put, steps_put, last_put};
 ghost use Rattle.answers.specs.Values.{forgotten, Number, appeared_of, due_put, due_at, arguments_put, FreeNode, FunctionNode, Node, NextNode, Nodes, value_of, Value, Values, none_yet};
@@ -10,7 +12,7 @@ use records::BODY_LENGTHS;
 use words::{add, byte_at, get, on, put};
 
 // An answer that is written whole, in so many bytes; one that passes the room; one with more nodes due than W.
-#[derive(Drop)]
+#[derive(Clone, Copy)]
 pub enum Wrote {
     Bytes(usize),
     Full,
@@ -19,7 +21,7 @@ pub enum Wrote {
 
 // The answer so far: its size, how many free variables have appeared, how many nodes of the value are due, and the end that stops
 // its writing, or 0.
-#[derive(Drop)]
+#[derive(Clone, Copy)]
 pub struct Tally {
     pub size: usize,
     pub free: u32,

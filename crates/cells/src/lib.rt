@@ -1,4 +1,6 @@
 // The cells in scratch: what they hold, following them, binding, going back, and the check inside a value.
+#![tactic(auto)]
+
 ghost use Rattle.std.specs.Prelude.{◌≡◌, ◌+◌, ◌<◌, set};
 ghost use Rattle.cells.specs.Cells.{word_of, cell_of, cell_at, node_of, hop_of, followed, undone, freed, Visit, Meet, width_of, Small, Scan, ScanHeld, LookInto, Inside};
 
@@ -6,40 +8,40 @@ use meaning::{CellNumber, Place};
 use words::{add, byte_after, byte_at, get, number_after, on, put};
 
 // A term of the file: its place, with the cell that its variables are counted from.
-#[derive(Drop)]
+#[derive(Clone, Copy)]
 pub struct Held {
     pub place: Place,
     pub base: CellNumber,
 }
 
-#[derive(Drop)]
+#[derive(Clone, Copy)]
 pub enum Cell {
     Free,
     Bound(Held),
 }
 
 // What stands at a place: a variable, which is a cell, or a function applied.
-#[derive(Drop)]
+#[derive(Clone, Copy)]
 pub enum Node {
     Variable(CellNumber),
     Applied(u32),
 }
 
 // What following a term comes to: a free variable, or a function applied, and where that stands.
-#[derive(Drop)]
+#[derive(Clone, Copy)]
 pub enum Found {
     Unbound(CellNumber, Held),
     Function(u32, Held),
 }
 
-#[derive(Drop)]
+#[derive(Clone, Copy)]
 pub enum Hop {
     Stop(Found),
     Go(Held),
 }
 
 // Where the regions of scratch begin.
-#[derive(Drop)]
+#[derive(Clone, Copy)]
 pub struct Layout {
     pub firsts: u32,
     pub cells: u32,
@@ -161,7 +163,7 @@ pub fn clear(w: &mut [u32], lay: Layout, from: u32, count: u32)
 }
 
 // The check inside a value: whether the variable was met, and how many bound cells are listed to be looked into.
-#[derive(Drop)]
+#[derive(Clone, Copy)]
 pub struct Seen {
     pub met: bool,
     pub count: u32,

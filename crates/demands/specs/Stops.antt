@@ -243,11 +243,11 @@ module _ (R : Rules) (L : Limits) (wanted room : ℕ) where
   move_spends m d = comes_spent (move_comes m (spend d))
 
   -- so from one state no other is reached with the same units
-  reached_spent : {s t : State} {budget : ℕ} → ReachedFrom s budget t → spent s ≤ spent t
+  reached_spent : {s : State} {budget : ℕ} {t : State} → ReachedFrom s budget t → spent s ≤ spent t
   reached_spent started = omega arith
   reached_spent (moved {m = m} {d = d} i l) = let h = reached_spent i in let k = move_spends m d in omega arith
 
-  pub reached_once : {s t u : State} {budget : ℕ} → ReachedFrom s budget t → ReachedFrom s budget u → spent t ≡ spent u → t ≡ u
+  pub reached_once : {s : State} {budget : ℕ} {t u : State} → ReachedFrom s budget t → ReachedFrom s budget u → spent t ≡ spent u → t ≡ u
   reached_once started started e = refl
   reached_once started (moved {m = m} {d = d} j l) e = let h = reached_spent j in let k = move_spends m d in absurd (omega arith)
   reached_once (moved {m = m} {d = d} i l) started e = let h = reached_spent i in let k = move_spends m d in absurd (omega arith)

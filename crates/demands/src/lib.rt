@@ -1,1 +1,2 @@
 // The theorems over the definitions are in specs/. No code stands on them.
+#![tactic(auto)]

@@ -1,4 +1,6 @@
 // What a C program calls: the exported functions, thin.
+#![tactic(auto)]
+
 mod told;
 
 ghost use Rattle.std.specs.Prelude.{◌≡◌};

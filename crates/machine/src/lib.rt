@@ -1,4 +1,6 @@
 // The machine: a run from its start to its end, and the whole call around it.
+#![tactic(auto)]
+
 mod heads;
 mod run;
 

@@ -9,14 +9,14 @@ use search::{Due, Given, Regs, back, move_cut, start};
 use words::{add, byte_after, on};
 
 // What has been written: answers, and bytes of output.
-#[derive(Drop)]
+#[derive(Clone, Copy)]
 pub struct Written {
     pub answers: u32,
     pub bytes: usize,
 }
 
 // What is due, and what has been written.
-#[derive(Drop)]
+#[derive(Clone, Copy)]
 pub struct Turn {
     pub due: Due,
     pub written: Written,

@@ -1,4 +1,6 @@
 // Matching a head: the list of pairs in scratch, whose front is the pair written last, and what taking that pair does.
+#![tactic(auto)]
+
 ghost use Rattle.std.specs.Prelude.{◌≡◌, ◌+◌, ◌*◌, ◌-◌};
 ghost use Rattle.matching.specs.Matching.{put_four, held_at, place_after, word_of_place, pushed, past_kind, bound_to, one_bound, BindChecked, BindHead, Functions, front_of, Compares, TakesPair, MatchesPairs};
 
@@ -82,7 +84,7 @@ pub fn push_pairs(w: &mut [u32], lay: Layout, work: u32, n: u32, g: Held, h: Hel
 
 // What the front pair comes to: the lengths of the trail and of the list then, and the first cell that no goal mentions; a mismatch;
 // or a list over W.
-#[derive(Drop)]
+#[derive(Clone, Copy)]
 pub enum Pairing {
     Same(u32, u32, u32),
     Differ,
@@ -187,7 +189,7 @@ fn functions(
 }
 
 // Goal side and head side of a pair, both followed.
-#[derive(Drop)]
+#[derive(Clone, Copy)]
 pub struct Front {
     pub goal: Found,
     pub head: Found,
@@ -261,7 +263,7 @@ pub fn take_pair(
 }
 
 // How the pairs of a head came out: it matched, it did not, its list went over W, or the units were spent.
-#[derive(Drop)]
+#[derive(Clone, Copy)]
 pub enum Came {
     Matched,
     Differed,
@@ -270,7 +272,7 @@ pub enum Came {
 }
 
 // That, and what the matching had come to: bindings, pairs left, the first cell that no goal mentions, units spent.
-#[derive(Drop)]
+#[derive(Clone, Copy)]
 pub struct Matched {
     pub trail: u32,
     pub came: Came,

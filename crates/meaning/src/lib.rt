@@ -1,18 +1,19 @@
 // The numbers and answers that code and definitions share. The definitions of document 01 are in specs/; the code that meets them is in
 // other crates.
+#![tactic(auto)]
 
 // A clause number, a cell number and a file place are three kinds of number.
-#[derive(Drop)]
+#[derive(Clone, Copy)]
 pub struct ClauseNumber(pub u32);
 
-#[derive(Drop)]
+#[derive(Clone, Copy)]
 pub struct CellNumber(pub u32);
 
-#[derive(Drop)]
+#[derive(Clone, Copy)]
 pub struct Place(pub usize);
 
 // How a run ended.
-#[derive(Drop)]
+#[derive(Clone, Copy)]
 pub enum End {
     NoMore,
     Wanted,
@@ -24,7 +25,7 @@ pub enum End {
 }
 
 // What a run comes to: answers and bytes written, units spent.
-#[derive(Drop)]
+#[derive(Clone, Copy)]
 pub struct Totals {
     pub answers: u32,
     pub units: u32,
@@ -32,7 +33,7 @@ pub struct Totals {
 }
 
 // A refusal, by number and place, or an end.
-#[derive(Drop)]
+#[derive(Clone, Copy)]
 pub enum Outcome {
     Refused(u32, Place),
     Ended(End, Totals),

@@ -1,4 +1,6 @@
 // Any bytes are checked as a rule file: "the file is read forward and the first fault counts". Nothing is written.
+#![tactic(auto)]
+
 mod clause;
 mod row;
 mod step;
@@ -17,7 +19,7 @@ use row::{Row, arities, clauses};
 use step::Step;
 
 // How many functions, predicates and clauses a good file has.
-#[derive(Drop)]
+#[derive(Clone, Copy)]
 pub struct Counts {
     pub functions: u32,
     pub predicates: u32,
@@ -25,7 +27,7 @@ pub struct Counts {
 }
 
 // A refusal by number and place, or a good file.
-#[derive(Drop)]
+#[derive(Clone, Copy)]
 pub enum Checked {
     Refused(u32, Place),
     Good(Counts),

@@ -12,7 +12,7 @@ use meaning::Place;
 use records::{ARITY_LIMIT, CLAUSE};
 
 // A refusal, or how many records there are and the place after them.
-#[derive(Drop)]
+#[derive(Clone, Copy)]
 pub enum Row {
     Refused(u32, Place),
     Of(usize, usize),

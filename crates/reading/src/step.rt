@@ -6,7 +6,7 @@ ghost use Rattle.reading.specs.Steps.{step, either, any};
 use meaning::Place;
 
 // Where a reader comes to: a refusal by number and place, or the variables that have appeared and the next place.
-#[derive(Drop)]
+#[derive(Clone, Copy)]
 pub enum Step {
     Refused(u32, Place),
     Next(usize, usize),

@@ -9,7 +9,7 @@ use meaning::Place;
 use records::{APPLICATION, VARIABLE};
 
 // The arity of a function or predicate: unknown, where its number is out of range.
-#[derive(Drop)]
+#[derive(Clone, Copy)]
 pub enum Arity {
     Unknown,
     Of(usize),

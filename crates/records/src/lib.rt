@@ -1,4 +1,6 @@
 // The kinds of records with their body lengths, and the limits of a rule file. Each number stands here once.
+#![tactic(auto)]
+
 ghost use Rattle.std.specs.Prelude.{◌≡◌, ◌≤◌};
 ghost use Rattle.meaning.specs.Kinds.{body_length};
 

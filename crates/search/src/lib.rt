@@ -1,4 +1,6 @@
 // The search: steps, choices, goals and the moves. What a move leads to is the next that is due.
+#![tactic(auto)]
+
 ghost use Rattle.std.specs.Prelude.{◌≡◌};
 ghost use Rattle.search.specs.Search.{step_word, settled_next, clause_place_word, clause_next_word, below_of, step_next, rest_word, retried, Backs, trial_of, first_word, GoesOn, step_put, room_of, arity_at, paired, entered_regs, Enters, kept_of, MovesCut, Starts};
 
@@ -7,7 +9,7 @@ use matching::{after, behind, place_word, push_pairs, put_four};
 use meaning::{CellNumber, ClauseNumber, End, Place};
 use words::{add, byte_after, byte_at, get, number_after, on};
 
-#[derive(Drop)]
+#[derive(Clone, Copy)]
 pub struct Limits {
     pub cells: u32,
     pub steps: u32,
@@ -15,7 +17,7 @@ pub struct Limits {
 }
 
 // What a run is given beside the file: the layout of scratch, the run limits, how many functions there are, and the query's place.
-#[derive(Drop)]
+#[derive(Clone, Copy)]
 pub struct Given {
     pub lay: Layout,
     pub limits: Limits,
@@ -24,7 +26,7 @@ pub struct Given {
 }
 
 // Where the goals go on: a place, and the step whose clause it belongs to, from 1; 0 is the query.
-#[derive(Drop)]
+#[derive(Clone, Copy)]
 pub struct Next {
     pub place: Place,
     pub step: u32,
@@ -32,7 +34,7 @@ pub struct Next {
 
 // Where a run is: cells taken, bindings, steps, the latest choice (a step from 1; 0 is none), pairs to match, the first cell that no value
 // and no goal side of a pair mentions, the open goals, units spent.
-#[derive(Drop)]
+#[derive(Clone, Copy)]
 pub struct Regs {
     pub cells: u32,
     pub trail: u32,
@@ -45,7 +47,7 @@ pub struct Regs {
 }
 
 // A goal and a clause to try for it: the goal's place, the cells of its variables, and the goals behind it.
-#[derive(Drop)]
+#[derive(Clone, Copy)]
 pub struct Trial {
     pub clause: ClauseNumber,
     pub goal: Place,
@@ -54,7 +56,7 @@ pub struct Trial {
 }
 
 // What is due: a move, which costs a unit, an answer, or the end.
-#[derive(Drop)]
+#[derive(Clone, Copy)]
 pub enum Due {
     Try(Regs, Trial),
     Pair(Regs),
@@ -113,7 +115,7 @@ fn below(a: u32, b: u32) -> u32
 }
 
 // The choice of a step: the choice before it, and the next clause to try, from 1.
-#[derive(Drop)]
+#[derive(Clone, Copy)]
 pub struct Rest {
     pub prior: u32,
     pub clause: u32,
@@ -270,7 +272,7 @@ fn put_step(w: &mut [u32], lay: Layout, t: Trial, m: Regs)
 }
 
 // Whether a trial has room, and where its clause stands.
-#[derive(Drop)]
+#[derive(Clone, Copy)]
 pub enum Room {
     Cells,
     Steps,

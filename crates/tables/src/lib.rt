@@ -1,5 +1,7 @@
 // Lays out the tables of a run in scratch, once the file has been found good: for each term and goal the place after it, for each
 // predicate its clauses in number order.
+#![tactic(auto)]
+
 ghost use Rattle.std.specs.Prelude.{◌≡◌, ◌+◌, ◌*◌, ◌^◌, ◌<◌, ◌≤◌, length};
 ghost use Rattle.meaning.specs.Reading.{two_bytes};
 ghost use Rattle.tables.specs.Laid.{clear, links};

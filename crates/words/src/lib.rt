@@ -1,5 +1,7 @@
 // Words of scratch and bytes of the file, by index: past the end there is nothing, which reads as 0 and is not written. So reading and
 // writing ask nothing of a caller.
+#![tactic(auto)]
+
 ghost use Rattle.std.specs.Prelude.{◌≡◌, ◌+◌, ◌*◌, ◌%◌, ◌^◌, ◌<◌, slice_index, slice_set};
 ghost use Rattle.meaning.specs.Reading.{byte, two_bytes};
 ghost use Rattle.words.specs.Words.{plus, ahead};

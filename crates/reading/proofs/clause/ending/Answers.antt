@@ -1,0 +1,19 @@
+use Rattle.std.proofs.Common.{rules, ◌≡◌, ◌+◌, ◌*◌, ◌≤◌, ◌<◌, length, [], ℕ, ◌-◌, ◌/◌, ◌%◌, Bool, true, false, nat_eq, nat_lt, List, ◌∷◌, ◌++◌, slice_index_or, slice_set, bit_and, bit_or, Fits, w8, w32, w64, Bor, MutBor}
+use Rattle.meaning.specs.Reading as definition
+use Rattle.reading.specs.Arities.{over}
+use Rattle.reading.specs.Steps.{step, in_range}
+use Rattle.reading.specs.Steps as steps
+use Rattle.reading.proofs.clause.ending.Goals as goal
+use Rattle.reading.proofs.ClauseLaws.{ending_good, ending_more, ending_refused}
+
+-- src/clause.rt:165:17
+pub returns-then-end-file : goal.returns-then-end-file
+returns-then-end-file c = search (ending_more, ending_refused, ending_good)
+
+-- src/clause.rt:158:1
+pub returns-in-Refused : goal.returns-in-Refused
+returns-in-Refused c = search (ending_more, ending_refused, ending_good)
+
+-- src/clause.rt:158:1
+pub returns-else-end-file : goal.returns-else-end-file
+returns-else-end-file c = search (ending_more, ending_refused, ending_good)

@@ -1,0 +1,25 @@
+use Rattle.std.proofs.Common.{rules, ◌≡◌, ◌+◌, ◌<◌, eqb, length, ℕ, ◌-◌, ◌*◌, ◌≤◌, ◌/◌, ◌%◌, Bool, true, false, nat_lt, List, [], ◌∷◌, ◌++◌, slice_index_or, slice_set, bit_and, bit_or, Fits, w8, w32, w64, Bor, MutBor}
+use Rattle.meaning.specs.Reading as definition
+use Rattle.reading.specs.Steps.{step, either, any}
+use Rattle.reading.proofs.step.next.Goals as goal
+use Rattle.reading.proofs.StepLaws.{code_missing, code_one, code_other, code_two, kind_here}
+
+-- src/step.rt:69:9
+pub returns-then-file-at : goal.returns-then-file-at
+returns-then-file-at c = search (code_missing, kind_here, code_one, code_two, code_other)
+
+-- src/step.rt:72:9
+pub whole-requires-clause-kind_value : goal.whole-requires-clause-kind_value
+whole-requires-clause-kind_value c = search (code_missing, kind_here, code_one, code_two, code_other)
+
+-- src/step.rt:72:9
+pub returns-then-file-at-2 : goal.returns-then-file-at-2
+returns-then-file-at-2 c = search (code_missing, kind_here, code_one, code_two, code_other)
+
+-- src/step.rt:75:9
+pub returns-then-file-at-3 : goal.returns-then-file-at-3
+returns-then-file-at-3 c = search (code_missing, kind_here, code_one, code_two, code_other)
+
+-- src/step.rt:65:1
+pub returns : goal.returns
+returns c = search (code_missing, kind_here, code_one, code_two, code_other)

@@ -1,0 +1,22 @@
+use Rattle.std.proofs.Common.{rules, ◌≡◌, ◌+◌, ◌*◌, ◌≤◌, ◌<◌, length, ℕ, ◌-◌, ◌/◌, ◌%◌, Bool, true, false, nat_eq, nat_lt, List, [], ◌∷◌, ◌++◌, slice_index_or, slice_set, bit_and, bit_or, Fits, w8, w32, w64, Bor, MutBor}
+use Rattle.meaning.specs.Reading as definition
+use Rattle.reading.specs.Arities.{arities, functions_of, arity}
+use Rattle.reading.specs.Steps.{step}
+use Rattle.reading.proofs.term.variable.Goals as goal
+use Rattle.reading.proofs.TermLaws.{variable_ahead, variable_new, variable_old, variable_undeclared}
+
+-- src/term.rt:38:9
+pub returns-then-declared-x : goal.returns-then-declared-x
+returns-then-declared-x c = search (variable_undeclared, variable_ahead, variable_new, variable_old)
+
+-- src/term.rt:41:9
+pub returns-then-seen-x : goal.returns-then-seen-x
+returns-then-seen-x c = search (variable_undeclared, variable_ahead, variable_new, variable_old)
+
+-- src/term.rt:44:9
+pub returns-then-x-seen : goal.returns-then-x-seen
+returns-then-x-seen c = search (variable_undeclared, variable_ahead, variable_new, variable_old)
+
+-- src/term.rt:32:1
+pub returns : goal.returns
+returns c = search (variable_undeclared, variable_ahead, variable_new, variable_old)

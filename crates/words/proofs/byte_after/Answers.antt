@@ -1,0 +1,21 @@
+use Rattle.std.proofs.Common.{rules, ◌≡◌, ◌+◌, ◌*◌, ◌%◌, ◌^◌, ◌<◌, slice_index, slice_set, ℕ, ◌-◌, ◌≤◌, length, ◌/◌, Bool, true, false, nat_eq, nat_lt, List, [], ◌∷◌, ◌++◌, slice_index_or, bit_and, bit_or, Fits, w8, w32, w64, Bor, MutBor}
+use Rattle.meaning.specs.Reading.{byte, two_bytes}
+use Rattle.words.specs.Words.{plus, ahead}
+use Rattle.words.proofs.byte_after.Goals as goal
+use Rattle.meaning.specs.Reading.{byte}
+use Rattle.words.proofs.Laws.{byte_past, byte_short}
+
+-- src/lib.rt:47:13
+pub returns-then-k-file-clause-is : goal.returns-then-k-file-clause-is
+unfolding byte
+returns-then-k-file-clause-is c = search (byte_short, byte_past)
+
+-- src/lib.rt:41:1
+pub returns-else-k-file-clause-is : goal.returns-else-k-file-clause-is
+unfolding byte
+returns-else-k-file-clause-is c = search (byte_short, byte_past)
+
+-- src/lib.rt:41:1
+pub returns-else-p-file-clause-is : goal.returns-else-p-file-clause-is
+unfolding byte
+returns-else-p-file-clause-is c = search (byte_short, byte_past)
