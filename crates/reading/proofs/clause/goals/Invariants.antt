@@ -12,4 +12,4 @@ invariant-loop-left l = step (definition.goals (over definition.goal l.file l.fu
     ≡ step (definition.goals (over definition.goal l.file l.functions l.predicates l.declared) l.n l.seen l.at)
 
 abbrev pub decreases-loop-left : goal.decreases-loop-left
-decreases-loop-left l = l.left l.left
+decreases-loop-left l = l.left

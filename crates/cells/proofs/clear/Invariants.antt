@@ -1,0 +1,10 @@
+use Rattle.std.proofs.Common.{◌≡◌, ◌+◌, ◌<◌, set, ℕ, ◌-◌, ◌*◌, ◌≤◌, length}
+use Rattle.cells.specs.Cells.{word_of, cell_of, cell_at, node_of, hop_of, followed, undone, freed, Visit, Meet, width_of, Small, Scan, ScanHeld, LookInto, Inside}
+use Rattle.cells.proofs.clear.Given as goal
+use Rattle.cells.proofs.Laws.{Clearing}
+
+abbrev pub invariant-loop-left : goal.invariant-loop-left
+invariant-loop-left l = Clearing l.lay l.from l.count l.initial.w l.left l.w
+
+abbrev pub decreases-loop-left : goal.decreases-loop-left
+decreases-loop-left l = l.left

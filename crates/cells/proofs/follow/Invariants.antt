@@ -1,0 +1,10 @@
+use Rattle.std.proofs.Common.{◌≡◌, ◌+◌, ◌<◌, set, ℕ, ◌-◌, ◌*◌, ◌≤◌, length}
+use Rattle.cells.specs.Cells.{word_of, cell_of, cell_at, node_of, hop_of, followed, undone, freed, Visit, Meet, width_of, Small, Scan, ScanHeld, LookInto, Inside}
+use Rattle.cells.proofs.follow.Given as goal
+use Rattle.cells.proofs.Laws.{Following}
+
+abbrev pub invariant-loop-f : goal.invariant-loop-f
+invariant-loop-f l = Following l.file l.w l.lay l.hops l.initial.at l.left l.at
+
+abbrev pub decreases-loop-f : goal.decreases-loop-f
+decreases-loop-f l = l.left

@@ -1,0 +1,10 @@
+use Rattle.std.proofs.Common.{◌-◌, ◌≡◌, ◌+◌, ◌<◌, set, ℕ, ◌*◌, ◌≤◌, length}
+use Rattle.cells.specs.Cells.{word_of, cell_of, cell_at, node_of, hop_of, followed, undone, freed, Visit, Meet, width_of, Small, Scan, ScanHeld, LookInto, Inside}
+use Rattle.cells.proofs.inside.Given as goal
+use Rattle.cells.proofs.Laws.{Looking}
+
+abbrev pub invariant-loop-i : goal.invariant-loop-i
+invariant-loop-i l = Looking l.file l.lay l.stamp l.bound l.x.0 l.initial.n l.initial.met l.initial.w l.n l.met l.i l.w
+
+abbrev pub decreases-loop-i : goal.decreases-loop-i
+decreases-loop-i l = l.bound - l.i

@@ -1,0 +1,10 @@
+use Rattle.std.proofs.Common.{◌≡◌, ◌+◌, ◌<◌, set, ℕ, ◌-◌, ◌*◌, ◌≤◌, length}
+use Rattle.cells.specs.Cells.{word_of, cell_of, cell_at, node_of, hop_of, followed, undone, freed, Visit, Meet, width_of, Small, Scan, ScanHeld, LookInto, Inside}
+use Rattle.cells.proofs.scan_from.Given as goal
+use Rattle.cells.proofs.Laws.{Scanning}
+
+abbrev pub invariant-loop-p : goal.invariant-loop-p
+invariant-loop-p l = Scanning l.file l.lay l.stamp l.x l.base l.end l.initial.p l.initial.n l.initial.w l.p l.n l.w
+
+abbrev pub decreases-loop-p : goal.decreases-loop-p
+decreases-loop-p l = l.end - l.p

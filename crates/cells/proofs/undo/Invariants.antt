@@ -1,0 +1,10 @@
+use Rattle.std.proofs.Common.{◌-◌, ◌≡◌, ◌+◌, ◌<◌, set, ℕ, ◌*◌, ◌≤◌, length}
+use Rattle.cells.specs.Cells.{word_of, cell_of, cell_at, node_of, hop_of, followed, undone, freed, Visit, Meet, width_of, Small, Scan, ScanHeld, LookInto, Inside}
+use Rattle.cells.proofs.undo.Given as goal
+use Rattle.cells.proofs.Laws.{Undoing}
+
+abbrev pub invariant-loop-t : goal.invariant-loop-t
+invariant-loop-t l = Undoing l.lay l.trail l.mark l.initial.w l.t l.w
+
+abbrev pub decreases-loop-t : goal.decreases-loop-t
+decreases-loop-t l = l.t - l.mark

@@ -1,0 +1,23 @@
+use Rattle.std.proofs.Common.{rules, ◌≡◌, ◌+◌, ◌*◌, ◌≤◌, ◌<◌, length, [], ℕ, ◌-◌, ◌/◌, ◌%◌, Bool, true, false, nat_eq, nat_lt, List, ◌∷◌, ◌++◌, slice_index_or, slice_set, bit_and, bit_or, Fits, w8, w32, w64, Bor, MutBor}
+use Rattle.meaning.specs.Reading as definition
+use Rattle.reading.specs.Arities.{over}
+use Rattle.reading.specs.Steps.{step, in_range}
+use Rattle.reading.specs.Steps as steps
+use Rattle.reading.proofs.clause.clause.Goals as goal
+use Rattle.reading.proofs.ClauseLaws.{clause_here, clause_inside, clause_lost, clause_many}
+
+-- src/clause.rt:136:17
+pub returns-then-before-ge-CLAUSE_LIMIT : goal.returns-then-before-ge-CLAUSE_LIMIT
+returns-then-before-ge-CLAUSE_LIMIT c = search (clause_many, clause_inside, clause_lost, clause_here)
+
+-- src/clause.rt:138:13
+pub numbered-requires-clause-p_in_bounds : goal.numbered-requires-clause-p_in_bounds
+numbered-requires-clause-p_in_bounds c = search (clause_many, clause_inside, clause_lost, clause_here)
+
+-- src/clause.rt:128:1
+pub returns-in-Refused : goal.returns-in-Refused
+returns-in-Refused c = search (clause_many, clause_inside, clause_lost, clause_here)
+
+-- src/clause.rt:128:1
+pub returns-else-before-ge-CLAUSE_LIMIT : goal.returns-else-before-ge-CLAUSE_LIMIT
+returns-else-before-ge-CLAUSE_LIMIT c = search (clause_many, clause_inside, clause_lost, clause_here)

@@ -1,0 +1,24 @@
+use Rattle.std.proofs.Common.{rules, ◌≡◌, ◌+◌, ◌*◌, ◌≤◌, ◌<◌, length, ◌&&◌, leb, ltb, ℕ, ◌-◌, ◌/◌, ◌%◌, Bool, true, false, nat_eq, List, [], ◌∷◌, ◌++◌, slice_index_or, slice_set, bit_and, bit_or, Fits, w8, w32, w64, Bor, MutBor}
+use Rattle.meaning.specs.Kinds.{body_length, a_clause, arity_limit}
+use Rattle.meaning.specs.Reading as definition
+use Rattle.reading.specs.SoFar.{SoFar, Counted, Rowed}
+use Rattle.reading.specs.Steps.{step}
+use Rattle.reading.specs.Steps as steps
+use Rattle.reading.proofs.row.arities.Goals as goal
+use Rattle.reading.proofs.RowLaws.{counted_end, counted_less, counted_more, counted_refused, turn, turn_body, turn_kind}
+
+-- src/row.rt:56:15
+pub declared-requires : goal.declared-requires
+declared-requires c = search (turn, turn_kind, turn_body, counted_refused, counted_less, counted_more, counted_end)
+
+-- src/row.rt:58:17
+pub returns-in-Refused : goal.returns-in-Refused
+returns-in-Refused c = search (turn, turn_kind, turn_body, counted_refused, counted_less, counted_more, counted_end)
+
+-- src/row.rt:55:5
+pub loop-k-smaller : goal.loop-k-smaller
+loop-k-smaller c = search (turn, turn_kind, turn_body, counted_refused, counted_less, counted_more, counted_end)
+
+-- src/row.rt:55:5
+pub loop-k-preserved : goal.loop-k-preserved
+loop-k-preserved c = search (turn, turn_kind, turn_body, counted_refused, counted_less, counted_more, counted_end)

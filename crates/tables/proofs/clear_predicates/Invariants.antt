@@ -1,0 +1,12 @@
+use Rattle.std.proofs.Common.{◌-◌, ◌≡◌, ◌+◌, ◌*◌, ◌^◌, ◌<◌, ◌≤◌, length, ℕ}
+use Rattle.meaning.specs.Reading.{two_bytes}
+use Rattle.tables.specs.Laid.{clear, links}
+use Rattle.tables.specs.Here.{CanTerm, HasTerm, CanTerms, HasTerms, CanArguments, HasArguments, CanGoal, HasGoal, CanGoals, HasGoals, CanClause, HasClause, CanClauses, HasClauses, CanLink, CanLay, HasLaid}
+use Rattle.tables.proofs.clear_predicates.Given as goal
+use Rattle.tables.proofs.Linking.{Clearing}
+
+abbrev pub invariant-loop-i : goal.invariant-loop-i
+invariant-loop-i l = Clearing l.first l.n l.initial.w l.i l.w
+
+abbrev pub decreases-loop-i : goal.decreases-loop-i
+decreases-loop-i l = l.n - l.i

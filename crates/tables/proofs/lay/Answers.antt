@@ -1,0 +1,30 @@
+use Rattle.std.proofs.Common.{rules, ◌≡◌, ◌+◌, ◌*◌, ◌^◌, ◌<◌, ◌≤◌, length, ℕ, ◌-◌, ◌/◌, ◌%◌, Bool, true, false, nat_eq, nat_lt, List, [], ◌∷◌, ◌++◌, slice_index_or, slice_set, bit_and, bit_or, Fits, w8, w32, w64, Bor, MutBor}
+use Rattle.meaning.specs.Reading.{two_bytes}
+use Rattle.tables.specs.Laid.{clear, links}
+use Rattle.tables.specs.Here.{CanTerm, HasTerm, CanTerms, HasTerms, CanArguments, HasArguments, CanGoal, HasGoal, CanGoals, HasGoals, CanClause, HasClause, CanClauses, HasClauses, CanLink, CanLay, HasLaid}
+use Rattle.tables.proofs.lay.Goals as goal
+use Rattle.tables.proofs.Lays.{lay_can_clauses, lay_clear, lay_end}
+
+-- src/lib.rt:179:5
+pub clear_predicates-requires : goal.clear_predicates-requires
+clear_predicates-requires c = search (lay_clear, lay_can_clauses, lay_end)
+
+-- src/lib.rt:180:9
+pub lay_clauses-at-requires : goal.lay_clauses-at-requires
+lay_clauses-at-requires c = search (lay_clear, lay_can_clauses, lay_end)
+
+-- src/lib.rt:188:13
+pub bounds-file-at : goal.bounds-file-at
+bounds-file-at c = search (lay_clear, lay_can_clauses, lay_end)
+
+-- src/lib.rt:189:5
+pub lay_goals-requires : goal.lay_goals-requires
+lay_goals-requires c = search (lay_clear, lay_can_clauses, lay_end)
+
+-- src/lib.rt:190:5
+pub link_clauses-requires : goal.link_clauses-requires
+link_clauses-requires c = search (lay_clear, lay_can_clauses, lay_end)
+
+-- src/lib.rt:172:1
+pub returns : goal.returns
+returns c = search (lay_clear, lay_can_clauses, lay_end)

@@ -1,0 +1,22 @@
+use Rattle.std.proofs.Common.{rules, ◌≡◌, ◌+◌, ◌*◌, ◌^◌, ◌<◌, ◌≤◌, length, ℕ, ◌-◌, ◌/◌, ◌%◌, Bool, true, false, nat_eq, nat_lt, List, [], ◌∷◌, ◌++◌, slice_index_or, slice_set, bit_and, bit_or, Fits, w8, w32, w64, Bor, MutBor}
+use Rattle.meaning.specs.Reading.{two_bytes}
+use Rattle.tables.specs.Laid.{clear, links}
+use Rattle.tables.specs.Here.{CanTerm, HasTerm, CanTerms, HasTerms, CanArguments, HasArguments, CanGoal, HasGoal, CanGoals, HasGoals, CanClause, HasClause, CanClauses, HasClauses, CanLink, CanLay, HasLaid}
+use Rattle.tables.proofs.lay_clauses.Goals as goal
+use Rattle.tables.proofs.Walks.{clauses_again, clauses_can, clauses_end, clauses_long, clauses_number, clauses_start}
+
+-- src/lib.rt:134:13
+pub number-q-requires : goal.number-q-requires
+number-q-requires c = search (clauses_start, clauses_number, clauses_can, clauses_again, clauses_long, clauses_end)
+
+-- src/lib.rt:137:9
+pub lay_clause-at-requires : goal.lay_clause-at-requires
+lay_clause-at-requires c = search (clauses_start, clauses_number, clauses_can, clauses_again, clauses_long, clauses_end)
+
+-- src/lib.rt:133:5
+pub loop-k-preserved : goal.loop-k-preserved
+loop-k-preserved c = search (clauses_start, clauses_number, clauses_can, clauses_again, clauses_long, clauses_end)
+
+-- src/lib.rt:127:1
+pub returns : goal.returns
+returns c = search (clauses_start, clauses_number, clauses_can, clauses_again, clauses_long, clauses_end)

@@ -1,0 +1,12 @@
+use Rattle.std.proofs.Common.{◌≡◌, ◌+◌, ◌*◌, ◌^◌, ◌<◌, ◌≤◌, length, ℕ, ◌-◌}
+use Rattle.meaning.specs.Reading.{two_bytes}
+use Rattle.tables.specs.Laid.{clear, links}
+use Rattle.tables.specs.Here.{CanTerm, HasTerm, CanTerms, HasTerms, CanArguments, HasArguments, CanGoal, HasGoal, CanGoals, HasGoals, CanClause, HasClause, CanClauses, HasClauses, CanLink, CanLay, HasLaid}
+use Rattle.tables.proofs.lay_goals.Given as goal
+use Rattle.tables.proofs.Walks.{GoingGoals}
+
+abbrev pub invariant-loop-left : goal.invariant-loop-left
+invariant-loop-left l = GoingGoals l.file l.initial.w l.base l.p l.n l.left l.at l.w
+
+abbrev pub decreases-loop-left : goal.decreases-loop-left
+decreases-loop-left l = l.left

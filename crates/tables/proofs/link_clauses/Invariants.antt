@@ -1,0 +1,12 @@
+use Rattle.std.proofs.Common.{◌≡◌, ◌+◌, ◌*◌, ◌^◌, ◌<◌, ◌≤◌, length, ℕ, ◌-◌}
+use Rattle.meaning.specs.Reading.{two_bytes}
+use Rattle.tables.specs.Laid.{clear, links}
+use Rattle.tables.specs.Here.{CanTerm, HasTerm, CanTerms, HasTerms, CanArguments, HasArguments, CanGoal, HasGoal, CanGoals, HasGoals, CanClause, HasClause, CanClauses, HasClauses, CanLink, CanLay, HasLaid}
+use Rattle.tables.proofs.link_clauses.Given as goal
+use Rattle.tables.proofs.Linking.{Linking}
+
+abbrev pub invariant-loop-k : goal.invariant-loop-k
+invariant-loop-k l = Linking l.first l.table l.n l.initial.w l.k l.w
+
+abbrev pub decreases-loop-k : goal.decreases-loop-k
+decreases-loop-k l = l.k
