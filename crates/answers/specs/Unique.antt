@@ -17,7 +17,7 @@ pub record Same {A : Type 0} (r₁ r₂ : A) (v₁ v₂ p₁ p₂ : List ℕ) : 
   pub words : v₁ ≡ v₂
   pub bytes : p₁ ≡ p₂
 
-number_unique : {lay : Layout} {x free n₁ n₂ : ℕ} {w v₁ v₂ o : List ℕ} → Number lay x free w n₁ v₁ → Number lay x free w n₂ v₂ → Same n₁ n₂ v₁ v₂ o o
+number_unique : {lay : Layout} {x free : ℕ} {w : List ℕ} {n₁ n₂ : ℕ} {v₁ v₂ o : List ℕ} → Number lay x free w n₁ v₁ → Number lay x free w n₂ v₂ → Same n₁ n₂ v₁ v₂ o o
 number_unique (known h) (known k) = record { result = refl; words = refl; bytes = refl }
 number_unique (known h) (fresh k) = absurd (h k)
 number_unique (fresh h) (known k) = absurd (k h)
@@ -68,7 +68,7 @@ value_unique (whole_value d m) (whole_value e n) =
     let s : Same _ _ _ _ _ _ = node_unique e d in
     nodes_unique m (rw (s.result, s.words, s.bytes) at n)
 
-pub values_unique : {file : List ℕ} {lay : Layout} {limit hops variables x : ℕ} {write : Bool} {t r₁ r₂ : Tally} {w o v₁ v₂ p₁ p₂ : List ℕ}
+pub values_unique : {file : List ℕ} {lay : Layout} {limit hops variables : ℕ} {write : Bool} {x : ℕ} {t r₁ r₂ : Tally} {w o v₁ v₂ p₁ p₂ : List ℕ}
     → Values file lay limit write hops variables x t w o r₁ v₁ p₁ → Values file lay limit write hops variables x t w o r₂ v₂ p₂ → Same r₁ r₂ v₁ v₂ p₁ p₂
 values_unique (no_more h) (no_more k) = record { result = refl; words = refl; bytes = refl }
 values_unique (no_more h) (value_stopped k l) = absurd (omega arith)

@@ -3,18 +3,19 @@ use Rattle.meaning.specs.Reading.{two_bytes}
 use Rattle.tables.specs.Laid.{clear, links}
 use Rattle.tables.specs.Here.{CanTerm, HasTerm, CanTerms, HasTerms, CanArguments, HasArguments, CanGoal, HasGoal, CanGoals, HasGoals, CanClause, HasClause, CanClauses, HasClauses, CanLink, CanLay, HasLaid}
 use Rattle.tables.proofs.+lay_arguments_lay_term_lay_terms.Given as goal
+use Rattle.tables.proofs.Walks.{GoingTerms}
 
 abbrev pub decreases-lay_arguments : goal.decreases-lay_arguments
-decreases-lay_arguments l = ?
+decreases-lay_arguments l = 3 * l.levels + 2
 
 abbrev pub decreases-lay_term : goal.decreases-lay_term
-decreases-lay_term l = ?
+decreases-lay_term l = 3 * l.levels
 
 abbrev pub decreases-lay_terms : goal.decreases-lay_terms
-decreases-lay_terms l = ?
+decreases-lay_terms l = 3 * l.levels + 1
 
 abbrev pub invariant-lay_terms-loop-left : goal.invariant-lay_terms-loop-left
-invariant-lay_terms-loop-left l = ?
+invariant-lay_terms-loop-left l = GoingTerms l.file l.initial.w l.p l.n l.levels l.left l.at l.w
 
 abbrev pub decreases-lay_terms-loop-left : goal.decreases-lay_terms-loop-left
-decreases-lay_terms-loop-left l = ?
+decreases-lay_terms-loop-left l = l.left

@@ -15,15 +15,15 @@ lay_clauses-at-requires c = search (lay_clear, lay_can_clauses, lay_end)
 
 -- src/lib.rt:188:13
 pub bounds-file-at : goal.bounds-file-at
-bounds-file-at c = search (lay_clear, lay_can_clauses, lay_end)
+bounds-file-at c = search (lay_clear, lay_can_clauses, lay_end, rules)
 
 -- src/lib.rt:189:5
 pub lay_goals-requires : goal.lay_goals-requires
-lay_goals-requires c = search (lay_clear, lay_can_clauses, lay_end)
+lay_goals-requires c = search (lay_clear, lay_can_clauses, lay_end, rules)
 
 -- src/lib.rt:190:5
 pub link_clauses-requires : goal.link_clauses-requires
-link_clauses-requires c = search (lay_clear, lay_can_clauses, lay_end)
+link_clauses-requires c = search (lay_clear, lay_can_clauses, lay_end, rules)
 
 -- src/lib.rt:172:1
 pub returns : goal.returns

@@ -1,5 +1,5 @@
 use Rattle.std.proofs.Common.{◌≡◌, ◌+◌, ◌*◌, ◌≤◌, ◌<◌, length, ◌&&◌, leb, ltb, ℕ, ◌-◌}
-use Rattle.meaning.specs.Kinds.{body_length, a_clause, arity_limit}
+use Rattle.meaning.specs.Kinds.{body_length, clause_limit, a_clause, arity_limit}
 use Rattle.meaning.specs.Reading as definition
 use Rattle.reading.specs.SoFar.{SoFar, Counted, Rowed}
 use Rattle.reading.specs.Steps.{step}

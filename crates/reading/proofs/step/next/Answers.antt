@@ -23,3 +23,7 @@ returns-then-file-at-3 c = search (code_missing, kind_here, code_one, code_two, 
 -- src/step.rt:65:1
 pub returns : goal.returns
 returns c = search (code_missing, kind_here, code_one, code_two, code_other)
+
+-- src/step.rt:75:9
+pub whole-requires-then-file-at-3-clause-kind_value : goal.whole-requires-then-file-at-3-clause-kind_value
+whole-requires-then-file-at-3-clause-kind_value c = search (code_missing, kind_here, code_one, code_two, code_other)

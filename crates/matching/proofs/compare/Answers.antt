@@ -1,0 +1,24 @@
+use Rattle.std.proofs.Common.{rules, ◌≡◌, ◌+◌, ◌*◌, ◌-◌, ℕ, ◌<◌, ◌≤◌, length, ◌/◌, ◌%◌, Bool, true, false, nat_eq, nat_lt, List, [], ◌∷◌, ◌++◌, slice_index_or, slice_set, bit_and, bit_or, Fits, w8, w32, w64, Bor, MutBor}
+use Rattle.matching.specs.Matching.{put_four, held_at, place_after, word_of_place, pushed, past_kind, bound_to, one_bound, BindChecked, BindHead, Functions, front_of, Compares, TakesPair, MatchesPairs}
+use Rattle.matching.proofs.compare.Goals as goal
+use Rattle.matching.proofs.Laws.{compare_both, compare_goal_free, compare_head, compare_head_free, compare_one}
+
+-- src/lib.rt:228:21
+pub returns-then-x-y : goal.returns-then-x-y
+returns-then-x-y c = search (compare_one, compare_head, compare_head_free, compare_goal_free, compare_both)
+
+-- src/lib.rt:209:1
+pub returns-else-x-y : goal.returns-else-x-y
+returns-else-x-y c = search (compare_one, compare_head, compare_head_free, compare_goal_free, compare_both)
+
+-- src/lib.rt:209:1
+pub returns-in-Function-g : goal.returns-in-Function-g
+returns-in-Function-g c = search (compare_one, compare_head, compare_head_free, compare_goal_free, compare_both)
+
+-- src/lib.rt:209:1
+pub returns-in-Unbound-g-2 : goal.returns-in-Unbound-g-2
+returns-in-Unbound-g-2 c = search (compare_one, compare_head, compare_head_free, compare_goal_free, compare_both)
+
+-- src/lib.rt:209:1
+pub returns-in-Function-g-2 : goal.returns-in-Function-g-2
+returns-in-Function-g-2 c = search (compare_one, compare_head, compare_head_free, compare_goal_free, compare_both)

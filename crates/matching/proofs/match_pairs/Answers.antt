@@ -1,0 +1,28 @@
+use Rattle.std.proofs.Common.{rules, ◌≡◌, ◌+◌, ◌*◌, ◌-◌, ℕ, ◌<◌, ◌≤◌, length, ◌/◌, ◌%◌, Bool, true, false, nat_eq, nat_lt, List, [], ◌∷◌, ◌++◌, slice_index_or, slice_set, bit_and, bit_or, Fits, w8, w32, w64, Bor, MutBor}
+use Rattle.matching.specs.Matching.{put_four, held_at, place_after, word_of_place, pushed, past_kind, bound_to, one_bound, BindChecked, BindHead, Functions, front_of, Compares, TakesPair, MatchesPairs}
+use Rattle.matching.proofs.match_pairs.Goals as goal
+use Rattle.matching.proofs.Laws.{match_again, match_all, match_crowded, match_differed, match_late, match_less, match_start}
+
+-- src/lib.rt:311:21
+pub returns-then-work-eq0 : goal.returns-then-work-eq0
+returns-then-work-eq0 c = search (match_start, match_late, match_differed, match_crowded, match_all, match_less, match_again)
+
+-- src/lib.rt:303:5
+pub loop-units-smaller : goal.loop-units-smaller
+loop-units-smaller c = search (match_start, match_late, match_differed, match_crowded, match_all, match_less, match_again)
+
+-- src/lib.rt:303:5
+pub loop-units-preserved : goal.loop-units-preserved
+loop-units-preserved c = search (match_start, match_late, match_differed, match_crowded, match_all, match_less, match_again)
+
+-- src/lib.rt:321:17
+pub returns-in-Differ : goal.returns-in-Differ
+returns-in-Differ c = search (match_start, match_late, match_differed, match_crowded, match_all, match_less, match_again)
+
+-- src/lib.rt:330:17
+pub returns-in-Over : goal.returns-in-Over
+returns-in-Over c = search (match_start, match_late, match_differed, match_crowded, match_all, match_less, match_again)
+
+-- src/lib.rt:285:1
+pub returns : goal.returns
+returns c = search (match_start, match_late, match_differed, match_crowded, match_all, match_less, match_again)

@@ -1,0 +1,10 @@
+use Rattle.std.proofs.Common.{◌≡◌, ◌+◌, ◌*◌, ◌-◌, ℕ, ◌<◌, ◌≤◌, length}
+use Rattle.matching.specs.Matching.{put_four, held_at, place_after, word_of_place, pushed, past_kind, bound_to, one_bound, BindChecked, BindHead, Functions, front_of, Compares, TakesPair, MatchesPairs}
+use Rattle.matching.proofs.push_pairs.Given as goal
+use Rattle.matching.proofs.Laws.{Pushing}
+
+abbrev pub invariant-loop-left : goal.invariant-loop-left
+invariant-loop-left l = Pushing l.n l.work l.lay (record { place = l.initial.p; base = l.a }) (record { place = l.initial.q; base = l.b }) l.initial.w l.left l.p l.q l.w
+
+abbrev pub decreases-loop-left : goal.decreases-loop-left
+decreases-loop-left l = l.left
