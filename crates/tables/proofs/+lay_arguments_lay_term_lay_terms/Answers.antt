@@ -1,4 +1,4 @@
-use Rattle.std.proofs.Common.{rules, ◌≡◌, ◌+◌, ◌*◌, ◌^◌, ◌<◌, ◌≤◌, length, ℕ, ◌-◌, ◌/◌, ◌%◌, Bool, true, false, nat_eq, nat_lt, List, [], ◌∷◌, ◌++◌, slice_index_or, slice_set, bit_and, bit_or, Fits, w8, w32, w64, Bor, MutBor}
+use Rattle.std.proofs.Common.{rules, arith, ◌≡◌, ◌+◌, ◌*◌, ◌^◌, ◌<◌, ◌≤◌, length, ℕ, ◌-◌, ◌/◌, ◌%◌, Bool, true, false, nat_eq, nat_lt, List, [], ◌∷◌, ◌++◌, slice_index_or, slice_set, bit_and, bit_or, Fits, w8, w32, w64, Bor, MutBor}
 use Rattle.meaning.specs.Reading.{two_bytes}
 use Rattle.tables.specs.Laid.{clear, links}
 use Rattle.tables.specs.Here.{CanTerm, HasTerm, CanTerms, HasTerms, CanArguments, HasArguments, CanGoal, HasGoal, CanGoals, HasGoals, CanClause, HasClause, CanClauses, HasClauses, CanLink, CanLay, HasLaid}
@@ -23,7 +23,8 @@ lay_term-overflow_sub-levels t c = search (arguments_terms, arguments_end, term_
 
 -- src/lib.rt:58:5
 pub lay_term-lay_arguments-requires : goal.lay_term-lay_arguments-requires
-lay_term-lay_arguments-requires t c = search (arguments_terms, arguments_end, term_variable, term_deep, term_arguments, term_application, terms_start, terms_can, terms_again, terms_end, rules)
+lay_term-lay_arguments-requires t c =
+    let deep : 0 < c.args.levels = search term_deep in (omega arith, search term_arguments)
 
 -- src/lib.rt:49:1
 pub lay_term-returns : goal.lay_term-returns
