@@ -1,0 +1,21 @@
+use Rattle.std.proofs.Common.{rules, ◌≡◌, ℕ, ◌+◌, ◌-◌, ◌*◌, ◌<◌, ◌≤◌, length, ◌/◌, ◌%◌, Bool, true, false, nat_eq, nat_lt, List, [], ◌∷◌, ◌++◌, slice_index_or, slice_set, bit_and, bit_or, Fits, w8, w32, w64, Bor, MutBor}
+use Rattle.search.specs.Search.{step_word, settled_next, clause_place_word, clause_next_word, below_of, step_next, rest_word, retried, Backs, trial_of, first_word, GoesOn, step_put, room_of, arity_at, paired, entered_regs, Enters, kept_of, MovesCut, Starts}
+use Rattle.search.proofs.back.Goals as goal
+use Rattle.search.proofs.Laws.{back_again, back_less, back_none, back_retry}
+
+-- src/lib.rt:182:13
+pub returns-then-rest-gt0 : goal.returns-then-rest-gt0
+returns-then-rest-gt0 c =
+    back_retry _ _ _ _ _ _ _ _ c.loop-c.invariant _ _ _ c.loop-c-test.true c.read_step-mark.ensures c.undo.ensures c.rest_of-rest.ensures _ c.if-rest-gt0.true c.retry.ensures
+
+-- src/lib.rt:177:5
+pub loop-c-smaller : goal.loop-c-smaller
+loop-c-smaller c = search (back_less, back_again, back_none)
+
+-- src/lib.rt:177:5
+pub loop-c-preserved : goal.loop-c-preserved
+loop-c-preserved c = search (back_less, back_again, back_none)
+
+-- src/lib.rt:172:1
+pub returns : goal.returns
+returns c = search (back_less, back_again, back_none)
