@@ -11,4 +11,4 @@ returns-then-number-free c = search (appeared_before, appeared_now)
 
 -- src/lib.rt:108:1
 pub returns : goal.returns
-returns c = search (appeared_before, appeared_now)
+returns c = search appeared_now

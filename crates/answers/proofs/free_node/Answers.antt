@@ -7,8 +7,8 @@ use Rattle.answers.proofs.Laws.{free_full, free_written}
 
 -- src/lib.rt:166:9
 pub returns-then-room_left-lt-VARIABLE : goal.returns-then-room_left-lt-VARIABLE
-returns-then-room_left-lt-VARIABLE c = search (free_full, free_written)
+returns-then-room_left-lt-VARIABLE c = search free_full
 
 -- src/lib.rt:155:1
 pub returns : goal.returns
-returns c = search (free_full, free_written)
+returns c = search free_written

@@ -7,12 +7,12 @@ use Rattle.answers.proofs.Laws.{walk_again, walk_less, walk_over, walk_start, wa
 
 -- src/lib.rt:265:13
 pub returns-then-t-ne0 : goal.returns-then-t-ne0
-returns-then-t-ne0 c = search (walk_start, walk_stopped, walk_over, walk_less, walk_again)
+returns-then-t-ne0 c = search (walk_stopped, walk_over, walk_again)
 
 -- src/lib.rt:268:13
 pub returns-then-t-eq0 : goal.returns-then-t-eq0
-returns-then-t-eq0 c = search (walk_start, walk_stopped, walk_over, walk_less, walk_again)
+returns-then-t-eq0 c = search (walk_stopped, walk_over, walk_again)
 
 -- src/lib.rt:263:5
 pub loop-t-preserved : goal.loop-t-preserved
-loop-t-preserved c = search (walk_start, walk_stopped, walk_over, walk_less, walk_again)
+loop-t-preserved c = search walk_again

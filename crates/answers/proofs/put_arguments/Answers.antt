@@ -7,8 +7,8 @@ use Rattle.answers.proofs.Laws.{arguments_again, arguments_end, arguments_start}
 
 -- src/lib.rt:147:5
 pub loop-left-preserved : goal.loop-left-preserved
-loop-left-preserved c = search (arguments_start, arguments_again, arguments_end)
+loop-left-preserved c = search arguments_again
 
 -- src/lib.rt:142:1
 pub returns : goal.returns
-returns c = search (arguments_start, arguments_again, arguments_end)
+returns c = search arguments_end

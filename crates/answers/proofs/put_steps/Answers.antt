@@ -7,8 +7,8 @@ use Rattle.answers.proofs.Laws.{steps_again, steps_end, steps_start}
 
 -- src/lib.rt:357:5
 pub loop-i-preserved : goal.loop-i-preserved
-loop-i-preserved c = search (steps_start, steps_again, steps_end)
+loop-i-preserved c = search steps_again
 
 -- src/lib.rt:353:1
 pub returns : goal.returns
-returns c = search (steps_start, steps_again, steps_end)
+returns c = search steps_end

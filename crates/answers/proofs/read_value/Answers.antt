@@ -11,4 +11,4 @@ returns-in-Free c = search (value_free, value_bound)
 
 -- src/lib.rt:279:1
 pub returns-in-Bound : goal.returns-in-Bound
-returns-in-Bound c = search (value_free, value_bound)
+returns-in-Bound c = search value_bound

@@ -7,12 +7,12 @@ use Rattle.answers.proofs.Laws.{values_again, values_end, values_start, values_s
 
 -- src/lib.rt:336:13
 pub returns-then-t-ne0 : goal.returns-then-t-ne0
-returns-then-t-ne0 c = search (values_start, values_stopped, values_again, values_end)
+returns-then-t-ne0 c = search (values_stopped, values_end)
 
 -- src/lib.rt:334:5
 pub loop-x-preserved : goal.loop-x-preserved
-loop-x-preserved c = search (values_start, values_stopped, values_again, values_end)
+loop-x-preserved c = search values_again
 
 -- src/lib.rt:315:1
 pub returns : goal.returns
-returns c = search (values_start, values_stopped, values_again, values_end)
+returns c = search (values_stopped, values_end)

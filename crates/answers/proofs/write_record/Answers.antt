@@ -7,7 +7,7 @@ use Rattle.answers.proofs.Laws.{record_measured, record_written}
 
 -- src/lib.rt:69:1
 pub returns-then-write : goal.returns-then-write
-returns-then-write c = search (record_written, record_measured)
+returns-then-write c = search record_written
 
 -- src/lib.rt:69:1
 pub returns-else-write : goal.returns-else-write

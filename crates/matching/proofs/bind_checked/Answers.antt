@@ -9,4 +9,4 @@ returns-then-inside c = search (bind_inside, bind_binds)
 
 -- src/lib.rt:112:1
 pub returns : goal.returns
-returns c = search (bind_inside, bind_binds)
+returns c = search bind_binds

@@ -9,16 +9,16 @@ returns-then-x-y c = search (compare_one, compare_head, compare_head_free, compa
 
 -- src/lib.rt:209:1
 pub returns-else-x-y : goal.returns-else-x-y
-returns-else-x-y c = search (compare_one, compare_head, compare_head_free, compare_goal_free, compare_both)
+returns-else-x-y c = search (compare_head, compare_head_free, compare_goal_free, compare_both)
 
 -- src/lib.rt:209:1
 pub returns-in-Function-g : goal.returns-in-Function-g
-returns-in-Function-g c = search (compare_one, compare_head, compare_head_free, compare_goal_free, compare_both)
+returns-in-Function-g c = search (compare_head, compare_head_free, compare_goal_free, compare_both)
 
 -- src/lib.rt:209:1
 pub returns-in-Unbound-g-2 : goal.returns-in-Unbound-g-2
-returns-in-Unbound-g-2 c = search (compare_one, compare_head, compare_head_free, compare_goal_free, compare_both)
+returns-in-Unbound-g-2 c = search (compare_head, compare_head_free, compare_goal_free, compare_both)
 
 -- src/lib.rt:209:1
 pub returns-in-Function-g-2 : goal.returns-in-Function-g-2
-returns-in-Function-g-2 c = search (compare_one, compare_head, compare_head_free, compare_goal_free, compare_both)
+returns-in-Function-g-2 c = search (compare_head, compare_head_free, compare_goal_free, compare_both)

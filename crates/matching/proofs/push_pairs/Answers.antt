@@ -5,7 +5,7 @@ use Rattle.matching.proofs.Laws.{push_again, push_end, push_start}
 
 -- src/lib.rt:77:5
 pub loop-left-preserved : goal.loop-left-preserved
-loop-left-preserved c = search (push_start, push_again, push_end)
+loop-left-preserved c = search push_again
 
 -- src/lib.rt:69:1
 pub returns : goal.returns

@@ -9,4 +9,4 @@ returns-then-w-at-gt3 c = put_four_within _ _ _ _ _ _ (omega arith)
 
 -- src/lib.rt:12:1
 pub returns : goal.returns
-returns c = search (put_four_is, put_four_within)
+returns c = search put_four_is

@@ -9,4 +9,4 @@ returns-then-work-eq0 c = search (take_none, take_front)
 
 -- src/lib.rt:242:1
 pub returns : goal.returns
-returns c = search (take_none, take_front)
+returns c = search take_front

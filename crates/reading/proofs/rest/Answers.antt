@@ -8,8 +8,8 @@ use Rattle.reading.proofs.FileLaws.{query_good, query_refused, rest_few, rest_re
 
 -- src/lib.rt:51:1
 pub returns-in-Refused-query : goal.returns-in-Refused-query
-returns-in-Refused-query c = search (rest_few, rest_refused, query_refused, query_good)
+returns-in-Refused-query c = search (rest_refused, query_refused)
 
 -- src/lib.rt:51:1
 pub returns-in-Next : goal.returns-in-Next
-returns-in-Next c = search (rest_few, rest_refused, query_refused, query_good)
+returns-in-Next c = search query_good

@@ -11,15 +11,15 @@ lay_arguments-lay_terms-end-requires t c = search (arguments_terms, arguments_en
 
 -- src/lib.rt:78:1
 pub lay_arguments-returns : goal.lay_arguments-returns
-lay_arguments-returns t c = search (arguments_terms, arguments_end, term_variable, term_deep, term_arguments, term_application, terms_start, terms_can, terms_again, terms_end)
+lay_arguments-returns t c = search arguments_end
 
 -- src/lib.rt:56:9
 pub lay_term-returns-then-file-p-eq-A_VARIABLE : goal.lay_term-returns-then-file-p-eq-A_VARIABLE
-lay_term-returns-then-file-p-eq-A_VARIABLE t c = search (arguments_terms, arguments_end, term_variable, term_deep, term_arguments, term_application, terms_start, terms_can, terms_again, terms_end)
+lay_term-returns-then-file-p-eq-A_VARIABLE t c = search (term_variable, term_application, terms_can)
 
 -- src/lib.rt:58:41
 pub lay_term-overflow_sub-levels : goal.lay_term-overflow_sub-levels
-lay_term-overflow_sub-levels t c = search (arguments_terms, arguments_end, term_variable, term_deep, term_arguments, term_application, terms_start, terms_can, terms_again, terms_end)
+lay_term-overflow_sub-levels t c = search term_deep
 
 -- src/lib.rt:58:5
 pub lay_term-lay_arguments-requires : goal.lay_term-lay_arguments-requires
@@ -28,7 +28,7 @@ lay_term-lay_arguments-requires t c =
 
 -- src/lib.rt:49:1
 pub lay_term-returns : goal.lay_term-returns
-lay_term-returns t c = search (arguments_terms, arguments_end, term_variable, term_deep, term_arguments, term_application, terms_start, terms_can, terms_again, terms_end)
+lay_term-returns t c = search (term_application, terms_can)
 
 -- src/lib.rt:70:9
 pub lay_terms-lay_term-at-requires : goal.lay_terms-lay_term-at-requires
@@ -36,8 +36,8 @@ lay_terms-lay_term-at-requires t c = search (arguments_terms, arguments_end, ter
 
 -- src/lib.rt:69:5
 pub lay_terms-loop-left-preserved : goal.lay_terms-loop-left-preserved
-lay_terms-loop-left-preserved t c = search (arguments_terms, arguments_end, term_variable, term_deep, term_arguments, term_application, terms_start, terms_can, terms_again, terms_end)
+lay_terms-loop-left-preserved t c = search terms_again
 
 -- src/lib.rt:62:1
 pub lay_terms-returns : goal.lay_terms-returns
-lay_terms-returns t c = search (arguments_terms, arguments_end, term_variable, term_deep, term_arguments, term_application, terms_start, terms_can, terms_again, terms_end)
+lay_terms-returns t c = search terms_end

@@ -7,8 +7,8 @@ use Rattle.tables.proofs.Linking.{clear_again, clear_end, clear_start}
 
 -- src/lib.rt:149:5
 pub loop-i-init : goal.loop-i-init
-loop-i-init c = search (clear_start, clear_again, clear_end)
+loop-i-init c = search clear_start
 
 -- src/lib.rt:149:5
 pub loop-i-preserved : goal.loop-i-preserved
-loop-i-preserved c = search (clear_start, clear_again, clear_end)
+loop-i-preserved c = search clear_again

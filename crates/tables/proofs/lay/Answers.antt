@@ -7,11 +7,11 @@ use Rattle.tables.proofs.Lays.{lay_can_clauses, lay_can_goals, lay_can_link, lay
 
 -- src/lib.rt:179:5
 pub clear_predicates-requires : goal.clear_predicates-requires
-clear_predicates-requires c = search (lay_clear, lay_can_clauses, lay_end)
+clear_predicates-requires c = search lay_clear
 
 -- src/lib.rt:180:9
 pub lay_clauses-at-requires : goal.lay_clauses-at-requires
-lay_clauses-at-requires c = search (lay_clear, lay_can_clauses, lay_end)
+lay_clauses-at-requires c = search lay_can_clauses
 
 -- src/lib.rt:188:13
 pub bounds-file-at : goal.bounds-file-at
@@ -29,4 +29,4 @@ link_clauses-requires c =
 
 -- src/lib.rt:172:1
 pub returns : goal.returns
-returns c = search (lay_clear, lay_can_clauses, lay_end)
+returns c = search lay_end

@@ -7,8 +7,8 @@ use Rattle.tables.proofs.Walks.{clause_body, clause_end, clause_head}
 
 -- src/lib.rt:122:5
 pub lay_goals-requires : goal.lay_goals-requires
-lay_goals-requires c = search (clause_head, clause_body, clause_end)
+lay_goals-requires c = search clause_body
 
 -- src/lib.rt:116:1
 pub returns : goal.returns
-returns c = search (clause_head, clause_body, clause_end)
+returns c = search clause_end

@@ -7,8 +7,8 @@ use Rattle.tables.proofs.Linking.{link_again, link_end, link_index, link_index_s
 
 -- src/lib.rt:162:5
 pub loop-k-preserved : goal.loop-k-preserved
-loop-k-preserved c = search (link_start, link_index, link_index_set, link_again, link_end)
+loop-k-preserved c = search link_again
 
 -- src/lib.rt:157:1
 pub returns : goal.returns
-returns c = search (link_start, link_index, link_index_set, link_again, link_end)
+returns c = search link_end

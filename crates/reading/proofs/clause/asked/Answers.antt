@@ -12,4 +12,4 @@ returns-then-not-in_range c = search (query_over, query_body)
 
 -- src/clause.rt:144:1
 pub returns : goal.returns
-returns c = search (query_over, query_body)
+returns c = search query_body

@@ -16,8 +16,8 @@ returns-in-Unknown c = search (clause_over, clause_unknown, clause_refused, clau
 
 -- src/clause.rt:108:1
 pub returns-in-Refused : goal.returns-in-Refused
-returns-in-Refused c = search (clause_over, clause_unknown, clause_refused, clause_body)
+returns-in-Refused c = search (clause_refused, clause_body)
 
 -- src/clause.rt:108:1
 pub returns-in-Next : goal.returns-in-Next
-returns-in-Next c = search (clause_over, clause_unknown, clause_refused, clause_body)
+returns-in-Next c = search clause_body

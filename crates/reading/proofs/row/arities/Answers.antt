@@ -9,16 +9,16 @@ use Rattle.reading.proofs.RowLaws.{counted_end, counted_less, counted_more, coun
 
 -- src/row.rt:56:15
 pub declared-requires : goal.declared-requires
-declared-requires c = search (turn, turn_kind, turn_body, counted_refused, counted_less, counted_more, counted_end)
+declared-requires c = search turn_body
 
 -- src/row.rt:58:17
 pub returns-in-Refused : goal.returns-in-Refused
-returns-in-Refused c = search (turn, turn_kind, turn_body, counted_refused, counted_less, counted_more, counted_end)
+returns-in-Refused c = search counted_refused
 
 -- src/row.rt:55:5
 pub loop-k-smaller : goal.loop-k-smaller
-loop-k-smaller c = search (turn, turn_kind, turn_body, counted_refused, counted_less, counted_more, counted_end)
+loop-k-smaller c = search counted_less
 
 -- src/row.rt:55:5
 pub loop-k-preserved : goal.loop-k-preserved
-loop-k-preserved c = search (turn, turn_kind, turn_body, counted_refused, counted_less, counted_more, counted_end)
+loop-k-preserved c = search (turn, counted_more)

@@ -9,12 +9,12 @@ use Rattle.reading.proofs.RowLaws.{clauses_end, clauses_less, clauses_more, clau
 
 -- src/row.rt:80:17
 pub returns-in-Refused : goal.returns-in-Refused
-returns-in-Refused c = search (clauses_refused, clauses_less, clauses_more, clauses_end)
+returns-in-Refused c = search clauses_refused
 
 -- src/row.rt:77:5
 pub loop-k-smaller : goal.loop-k-smaller
-loop-k-smaller c = search (clauses_refused, clauses_less, clauses_more, clauses_end)
+loop-k-smaller c = search clauses_less
 
 -- src/row.rt:77:5
 pub loop-k-preserved : goal.loop-k-preserved
-loop-k-preserved c = search (clauses_refused, clauses_less, clauses_more, clauses_end)
+loop-k-preserved c = search clauses_more

@@ -7,44 +7,44 @@ use Rattle.reading.proofs.TermLaws.{applied_inside, term_applied, term_deep, ter
 
 -- src/term.rt:66:17
 pub term-returns-then-levels-eq0 : goal.term-returns-then-levels-eq0
-term-returns-then-levels-eq0 t c = search (term_deep, term_inside, variable_inside, term_variable, applied_inside, term_refused, term_unknown, term_applied, terms_refused, terms_more, terms_end)
+term-returns-then-levels-eq0 t c = search (term_deep, term_variable, term_refused, term_applied)
 
 -- src/term.rt:68:16
 pub term-bounds-file-at : goal.term-bounds-file-at
-term-bounds-file-at t c = search (term_deep, term_inside, variable_inside, term_variable, applied_inside, term_refused, term_unknown, term_applied, terms_refused, terms_more, terms_end)
+term-bounds-file-at t c = search term_inside
 
 -- src/term.rt:69:17
 pub term-variable-requires : goal.term-variable-requires
-term-variable-requires t c = search (term_deep, term_inside, variable_inside, term_variable, applied_inside, term_refused, term_unknown, term_applied, terms_refused, terms_more, terms_end)
+term-variable-requires t c = search (term_inside, variable_inside)
 
 -- src/term.rt:69:17
 pub term-returns-then-file-at-eq-VARIABLE : goal.term-returns-then-file-at-eq-VARIABLE
-term-returns-then-file-at-eq-VARIABLE t c = search (term_deep, term_inside, variable_inside, term_variable, applied_inside, term_refused, term_unknown, term_applied, terms_refused, terms_more, terms_end)
+term-returns-then-file-at-eq-VARIABLE t c = search (term_variable, term_applied)
 
 -- src/term.rt:71:19
 pub term-arity_at-requires-clause-p_in_bounds : goal.term-arity_at-requires-clause-p_in_bounds
-term-arity_at-requires-clause-p_in_bounds t c = search (term_deep, term_inside, variable_inside, term_variable, applied_inside, term_refused, term_unknown, term_applied, terms_refused, terms_more, terms_end)
+term-arity_at-requires-clause-p_in_bounds t c = search (term_inside, applied_inside)
 
 -- src/term.rt:50:1
 pub term-returns-in-Refused : goal.term-returns-in-Refused
-term-returns-in-Refused t c = search (term_deep, term_inside, variable_inside, term_variable, applied_inside, term_refused, term_unknown, term_applied, terms_refused, terms_more, terms_end)
+term-returns-in-Refused t c = search (term_variable, term_refused, term_applied)
 
 -- src/term.rt:50:1
 pub term-returns-in-Unknown : goal.term-returns-in-Unknown
-term-returns-in-Unknown t c = search (term_deep, term_inside, variable_inside, term_variable, applied_inside, term_refused, term_unknown, term_applied, terms_refused, terms_more, terms_end)
+term-returns-in-Unknown t c = search (term_variable, term_refused, term_unknown, term_applied)
 
 -- src/term.rt:50:1
 pub term-returns-in-Of : goal.term-returns-in-Of
-term-returns-in-Of t c = search (term_deep, term_inside, variable_inside, term_variable, applied_inside, term_refused, term_unknown, term_applied, terms_refused, terms_more, terms_end)
+term-returns-in-Of t c = search (term_variable, term_applied)
 
 -- src/term.rt:99:17
 pub terms-returns-in-Refused : goal.terms-returns-in-Refused
-terms-returns-in-Refused t c = search (term_deep, term_inside, variable_inside, term_variable, applied_inside, term_refused, term_unknown, term_applied, terms_refused, terms_more, terms_end)
+terms-returns-in-Refused t c = search terms_refused
 
 -- src/term.rt:96:5
 pub terms-loop-left-preserved : goal.terms-loop-left-preserved
-terms-loop-left-preserved t c = search (term_deep, term_inside, variable_inside, term_variable, applied_inside, term_refused, term_unknown, term_applied, terms_refused, terms_more, terms_end)
+terms-loop-left-preserved t c = search terms_more
 
 -- src/term.rt:80:1
 pub terms-returns : goal.terms-returns
-terms-returns t c = search (term_deep, term_inside, variable_inside, term_variable, applied_inside, term_refused, term_unknown, term_applied, terms_refused, terms_more, terms_end)
+terms-returns t c = search terms_end

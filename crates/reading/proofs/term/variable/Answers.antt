@@ -7,16 +7,16 @@ use Rattle.reading.proofs.TermLaws.{variable_ahead, variable_new, variable_old, 
 
 -- src/term.rt:38:9
 pub returns-then-declared-x : goal.returns-then-declared-x
-returns-then-declared-x c = search (variable_undeclared, variable_ahead, variable_new, variable_old)
+returns-then-declared-x c = search (variable_undeclared, variable_ahead)
 
 -- src/term.rt:41:9
 pub returns-then-seen-x : goal.returns-then-seen-x
-returns-then-seen-x c = search (variable_undeclared, variable_ahead, variable_new, variable_old)
+returns-then-seen-x c = search (variable_undeclared, variable_ahead)
 
 -- src/term.rt:44:9
 pub returns-then-x-seen : goal.returns-then-x-seen
-returns-then-x-seen c = search (variable_undeclared, variable_ahead, variable_new, variable_old)
+returns-then-x-seen c = search variable_new
 
 -- src/term.rt:32:1
 pub returns : goal.returns
-returns c = search (variable_undeclared, variable_ahead, variable_new, variable_old)
+returns c = search variable_old
