@@ -123,7 +123,7 @@ module _ (X : Setting) (fits : length X.rules.predicates + 2 * length X.rules.cl
       (refl, subst (λ (c : ℕ). ChoicesAre X v n.store n.cells c cs) (sym p) rest, rw p prior)
   popped v i s u (k ∷ ks) g n cs (choices _ chain known numbers goal goals less links settled cells trail prior steps older fewer rest) h = let e = chain.0 in absurd (omega arith)
 
-  pub backs_fail : {trail c : ℕ} {w v : List ℕ} {r : Due} (m : Regs) → Backs (lay X) m trail c w r v → (s : Store) (u : ℕ) (cs : List Choice) (d : Done) → StoreRep X w s u trail m.units → Sound s → Within X s
+  pub backs_fail : (m : Regs) {trail c : ℕ} {w v : List ℕ} {r : Due} → Backs (lay X) m trail c w r v → (s : Store) (u : ℕ) (cs : List Choice) (d : Done) → StoreRep X w s u trail m.units → Sound s → Within X s
       → ChoicesAre X w s u c cs → SoundAll X cs → c ≤ X.limits.steps → m.units ≡ d.units → DueIs X v wanted room d r (fail cs d)
   unfolding fail end_number
   backs_fail m (no_choice h) s u _ d rep so wi no_choices al l un = is_over NoMore un

@@ -34,7 +34,7 @@ module _ (X : Setting) (wanted room : ℕ) where
   -- ---- choices that a cut keeps
   height_length : (w : List ℕ) {s : Store} {u c h : ℕ} {cs : List Choice} → HeightIs X w c h → ChoicesAre X w s u c cs → length cs ≡ h
   height_length w no_height no_choices = refl
-  height_length w (height i p q) (choices _ chain known numbers goal goals less links settled cells trail prior steps older fewer rest) = ap suc (height_length w q rest)
+  height_length w {s = s} (height i p q) (choices _ {n = n} chain known numbers goal goals less links settled cells trail prior steps older fewer rest) = ap suc (height_length w {s = n.store} q rest)
 
   keep_tail : (h : ℕ) (c : Choice) (cs : List Choice) → h ≤ length cs → keep h (c ∷ cs) ≡ keep h cs
   unfolding keep
@@ -45,8 +45,8 @@ module _ (X : Setting) (wanted room : ℕ) where
   kept_choices w {cs = cs} here g ch =
       let e = height_length w g ch in
       (subst (ChoicesAre X w _ _ _) (sym (keep_all _ cs (omega arith))) ch, omega arith)
-  kept_choices w (up i l o) g (choices _ {n = n} {cs = cs} chain known numbers goal goals less links settled cells trail prior steps older fewer rest) =
-      let (k, m) = kept_choices w o g rest in
+  kept_choices w {s = s} (up i l o) g (choices _ {n = n} {cs = cs} chain known numbers goal goals less links settled cells trail prior steps older fewer rest) =
+      let (k, m) = kept_choices w {s = n.store} o g rest in
       (subst (ChoicesAre X w _ _ _) (sym (keep_tail _ _ cs m)) (choices_later X w older fewer k), omega arith)
 
   sound_drop : (k : ℕ) (cs : List Choice) → SoundAll X cs → SoundAll X (drop k cs)

@@ -156,10 +156,13 @@ leads_elsewhere x u s w e =
 -- a bound variable leads where its term does
 pub follow_bound : (s : Store) (y : ℕ) (v : Term) → Sound s → Binds y v s → follow s (var y) ≡ follow s v
 unfolding follow onward
-follow_bound _ y v w (newest {s}) =
-    ap (onward y (follow s v)) (follow_free_variable s y w.0) ∙ if_true (eqb y y) (follow s v) (var y) (eq-eqb y y refl)
-    ∙ sym (onward_other y (follow s v) (follow s v) (leads_elsewhere y v s w))
-follow_bound _ y v w (before {x} {u} {s} b) = ap (onward x (follow s u)) (follow_bound s y v w.2 b)
+follow_bound s y v = go s
+  where
+    go : (s : Store) → Sound s → Binds y v s → follow s (var y) ≡ follow s v
+    go _ w (newest {s}) =
+        ap (onward y (follow s v)) (follow_free_variable s y w.0) ∙ if_true (eqb y y) (follow s v) (var y) (eq-eqb y y refl)
+        ∙ sym (onward_other y (follow s v) (follow s v) (leads_elsewhere y v s w))
+    go _ w (before {x} {u} {s} b) = ap (onward x (follow s u)) (go s w.2 b)
 
 -- ---- how many hops it takes
 -- a term that leads to x takes one more hop and those of what x was bound to
@@ -188,15 +191,18 @@ hops_free (bind x u s) y f = rw (hops_free s y f.1, follow_free_variable s y f.1
 
 hops_bound : (s : Store) (y : ℕ) (v : Term) → Sound s → Binds y v s → hops s (var y) ≡ suc (hops s v)
 unfolding hops further
-hops_bound _ y v w (newest {s}) =
-    let a = hops_free s y w.0 in
-    let b = ap (further y (hops s v)) (follow_free_variable s y w.0) ∙ if_true (eqb y y) (suc (hops s v)) 0 (eq-eqb y y refl) in
-    let c = further_other y (hops s v) (follow s v) (leads_elsewhere y v s w) in
-    omega arith
-hops_bound _ y v w (before {x} {u} {s} b) =
-    let a = hops_bound s y v w.2 b in
-    let c = ap (further x (hops s u)) (follow_bound s y v w.2 b) in
-    omega arith
+hops_bound s y v = go s
+  where
+    go : (s : Store) → Sound s → Binds y v s → hops s (var y) ≡ suc (hops s v)
+    go _ w (newest {s}) =
+        let a = hops_free s y w.0 in
+        let b = ap (further y (hops s v)) (follow_free_variable s y w.0) ∙ if_true (eqb y y) (suc (hops s v)) 0 (eq-eqb y y refl) in
+        let c = further_other y (hops s v) (follow s v) (leads_elsewhere y v s w) in
+        omega arith
+    go _ w (before {x} {u} {s} b) =
+        let a = go s w.2 b in
+        let c = ap (further x (hops s u)) (follow_bound s y v w.2 b) in
+        omega arith
 
 -- a term from which hops are left is a bound variable
 hops_left : (s : Store) → Sound s → (t : Term) (m : ℕ) → hops s t ≡ suc m → (y : ℕ) × (u : Term) × (t ≡ var y) × Binds y u s × (hops s u ≡ m)
@@ -246,12 +252,18 @@ pub record Stored (X : Setting) (w : List ℕ) (k n : ℕ) (s : Store) : Type 0 
 
 -- a bound cell holds the term it was bound to
 pub store_bound : (X : Setting) (w : List ℕ) (k : ℕ) (s : Store) (y : ℕ) (v : Term) → StoreIs X w k s → Binds y v s → (h : Held) × (cell_at w (lay X) y ≡ Bound h) × IsHeld X.rules h v
-store_bound X w k _ y v h newest = h.3
-store_bound X w k _ y v h (before {s = s} b) = store_bound X w h.0 s y v h.4 b
+store_bound X w k s y v = go k s
+  where
+    go : (k : ℕ) (s : Store) → StoreIs X w k s → Binds y v s → (h : Held) × (cell_at w (lay X) y ≡ Bound h) × IsHeld X.rules h v
+    go k _ h newest = h.3
+    go k _ h (before {s = s} b) = go h.0 s h.4 b
 
 pub bound_good : (fs : List ℕ) (n : ℕ) (s : Store) (y : ℕ) (v : Term) → GoodStore fs n s → Binds y v s → Good fs n v
-bound_good fs n _ y v g newest = g.1
-bound_good fs n _ y v g (before {s = s} b) = bound_good fs n s y v g.2 b
+bound_good fs n s y v = go s
+  where
+    go : (s : Store) → GoodStore fs n s → Binds y v s → Good fs n v
+    go _ g newest = g.1
+    go _ g (before {s = s} b) = go s g.2 b
 
 -- the term that stands at a place, over n cells
 module _ (X : Setting) (n : ℕ) (few : n ≤ 60_000) where

@@ -88,7 +88,7 @@ module _ (X : Setting) where
         let l : k.number < length X.rules.clauses = n.0 in (
           c.0,
           e (place_at F q k.number) (omega arith) (omega arith) ∙ c.1,
-          subst (λ (x : ℕ). Chain v F q X.rules x ks) (sym (e (next_at F q k.number) (omega arith) (omega arith))) (clause_words_same _ ks n.1 c.2),
+          subst (λ (x : ℕ). Chain v F q X.rules x ks) (sym (e (next_at F q k.number) (omega arith) (omega arith))) (clause_words_same (word w (next_at F q k.number)) ks n.1 c.2),
         )
 
     pub next_same : (k : ℕ) → k < length X.rules.clauses → clause_next_word v (lay X) k ≡ clause_next_word w (lay X) k

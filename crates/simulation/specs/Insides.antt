@@ -60,8 +60,11 @@ mutual
 
 -- ---- values
 solves_bound : (ν : ℕ → Term) (s : Store) (y : ℕ) (u : Term) → Solves ν s → Binds y u s → ν y ≡ inst ν u
-solves_bound ν _ y u h newest = h.0
-solves_bound ν _ y u h (before {s = s} b) = solves_bound ν s y u h.1 b
+solves_bound ν s y u = go s
+  where
+    go : (s : Store) → Solves ν s → Binds y u s → ν y ≡ inst ν u
+    go _ h newest = h.0
+    go _ h (before {s = s} b) = go s h.1 b
 
 -- the value of a bound cell is that of the term it was bound to
 pub value_bound : (s : Store) (y : ℕ) (u : Term) → Sound s → Binds y u s → value s y ≡ inst (value s) u
@@ -105,10 +108,13 @@ clear_outside (bind z v s) w x f M k t h i =
 
 -- a cell was bound once
 binds_same : {s : Store} {y : ℕ} {u v : Term} → Sound s → Binds y u s → Binds y v s → u ≡ v
-binds_same w newest newest = refl
-binds_same w newest (before b) = absurd (bound_not_free b w.0)
-binds_same w (before a) newest = absurd (bound_not_free a w.0)
-binds_same w (before a) (before b) = binds_same w.2 a b
+binds_same w a b = go w a b refl
+  where
+    go : {y : ℕ} {u : Term} {s : Store} → Sound s → Binds y u s → {z : ℕ} {v : Term} → Binds z v s → y ≡ z → u ≡ v
+    go w newest newest e = refl
+    go w (newest {s}) (before b) e = absurd (bound_not_free b (subst (λ (c : ℕ). Free c s) e w.0))
+    go w (before {s = s} a) newest e = absurd (bound_not_free a (subst (λ (c : ℕ). Free c s) (sym e) w.0))
+    go w (before a) (before b) e = go w.2 a b e
 
 -- no more cells are bound than are taken
 pub stored_few : {X : Setting} {w : List ℕ} {k n : ℕ} {s : Store} → Stored X w k n s → k ≤ n

@@ -7,7 +7,7 @@ use Rattle.std.proofs.Math.Seq.{length-sets}
 use Rattle.meaning.specs.If.{if◌then◌else◌}
 use Rattle.meaning.specs.Terms.{Term, Terms, []ₜ, ◌∷ₜ◌, count, inst, insts}
 use Rattle.meaning.specs.Kinds.{an_answer, a_step, the_answer_end}
-use Rattle.meaning.specs.Answers.{appears, Piece, piece, two, writes, write_step, bytes_of, fits, stops, fitting}
+use Rattle.meaning.specs.Answers.{appear, appears, Piece, piece, two, writes, write_step, bytes_of, fits, stops, fitting}
 use Rattle.laws.specs.IfLaws.{if_true, if_false}
 use Rattle.demands.specs.Proofs.{Each}
 use Rattle.words.specs.Words.{ahead}
@@ -40,7 +40,7 @@ joined_writes (u ∷ₜ us) ts due =
 pub joined_appears : (seen : List ℕ) (us ts : Terms) → appears seen (joined us ts) ≡ appears (appears seen us) ts
 unfolding joined appears
 joined_appears seen []ₜ ts = refl
-joined_appears seen (u ∷ₜ us) ts = joined_appears _ us ts
+joined_appears seen (u ∷ₜ us) ts = joined_appears (appear seen u) us ts
 
 -- ---- bytes
 pub bytes_join : (ps qs : List Piece) → bytes_of (ps ++ qs) ≡ bytes_of ps ++ bytes_of qs

@@ -129,7 +129,7 @@ module _ (X : Setting) (u : ℕ) (ys : List ℕ) (writing : Bool) where
     numbers : NumbersAre X u v (appear seen (var x))
     counts : Counts ys writing (appear seen (var x)) (appeared_of free n)
 
-  number_is : {x free n : ℕ} {w v : List ℕ} (seen : List ℕ) → x < u → u ≤ X.limits.cells → needed (length X.file) X.limits ≤ length w → length ys ≤ 60_000
+  number_is : {x free : ℕ} {w : List ℕ} {n : ℕ} {v : List ℕ} (seen : List ℕ) → x < u → u ≤ X.limits.cells → needed (length X.file) X.limits ≤ length w → length ys ≤ 60_000
       → NumbersAre X u w seen → Counts ys writing seen free → Leads ys (appear seen (var x)) → Number (lay X) x free w n v → NumberIs x free seen w n v
   unfolding appear layout_of needed
   number_is {x} {free} {w = w} seen l m long short numbers counts leads (known h) =
@@ -339,7 +339,7 @@ module _ (X : Setting) (s : Store) (k u : ℕ) (ys : List ℕ) (writing : Bool) 
       (arguments_due X b.raws ts h.base.0 (h.place.0 + 3) w (base_at a) b.stands (omega arith) a.nodes))
 
   -- a function applied
-  function_ends : {t r : Tally} {f : ℕ} {h : Held} {w o v p : List ℕ} (seen : List ℕ) (us ts : Terms) → Good X.rules.functions u (app f us) → Applied t f h us ts → length o < 2 ^ 63 → Here t w seen ts → (d : ℕ) → d ≡ count us + count ts
+  function_ends : {t : Tally} {f : ℕ} {h : Held} {w o : List ℕ} {r : Tally} {v p : List ℕ} (seen : List ℕ) (us ts : Terms) → Good X.rules.functions u (app f us) → Applied t f h us ts → length o < 2 ^ 63 → Here t w seen ts → (d : ℕ) → d ≡ count us + count ts
       → FunctionNode X.file (lay X) W writing t f h w o r v p → Ends writing W t.size (piece (an_application ∷ two f) d ∷ []) o r p (Here r v seen (joined us ts)) (Aside X w₀ v)
   unfolding two bytes_of layout_of
   function_ends {t} {f = f} {o = o} seen us ts g b big a d m (function_full l) = halts (inr refl) (λ rest. fitting_full (length o) W t.size (an_application ∷ two f) d rest (omega arith)) a.aside
@@ -472,7 +472,7 @@ module _ (X : Setting) (s : Store) (k u : ℕ) (ys : List ℕ) (writing : Bool) 
   values_stopped (next_value h e d m) n a = absurd (n e)
 
   -- the values of the variables from y on
-  pub values_walk : {t r : Tally} {n x : ℕ} {w o v p : List ℕ} → Values X.file (lay X) W writing k n x t w o r v p → (seen : List ℕ) (y m : ℕ) → x ≡ y → y + m ≡ n → n ≤ u → Here t w seen []ₜ
+  pub values_walk : {n : ℕ} {t r : Tally} {x : ℕ} {w o v p : List ℕ} → Values X.file (lay X) W writing k n x t w o r v p → (seen : List ℕ) (y m : ℕ) → x ≡ y → y + m ≡ n → n ≤ u → Here t w seen []ₜ
       → Leads ys (appears seen (values_from y m (value s))) → t.size ≤ length o → length o < 2 ^ 63
       → Ends writing W t.size (write_each (insts ρ (values_from y m (value s)))) o r p (Here r v (appears seen (values_from y m (value s))) []ₜ) (Aside X w₀ v)
   unfolding values_from insts write_each writes appears count
@@ -480,7 +480,7 @@ module _ (X : Setting) (s : Store) (k u : ℕ) (ys : List ℕ) (writing : Bool) 
   values_walk (no_more h) seen y (suc m) e f g a leads l big = absurd (omega arith)
   values_walk (value_stopped h n) seen y m e f g a leads l big = absurd (n a.going)
   values_walk (next_value h n d rest) seen y zero e f g a leads l big = absurd (omega arith)
-  values_walk {t} {r} {n = n} {o = o} {v} {p} (next_value {x} h z d rest) seen y (suc m) e f g a leads l big =
+  values_walk {n} {t} {r} {o = o} {v} {p} (next_value {x} h z d rest) seen y (suc m) e f g a leads l big =
       let vs : Terms = insts ρ (values_from (suc y) m (value s)) in
       let one : Term = inst ρ (value s y) in
       let d' : Value X.file (lay X) W writing k t y _ o _ _ _ = rw e at d in
