@@ -253,7 +253,7 @@ moves_left budget b e (lists a) = let x = lists_left budget a in omega arith
 moves_left budget b e is_over = absurd (false≢true e)
 
 -- the moves of heads
-pairs_fewer : {file : _} {g : Given} {m : Regs} {d : Due} {w v : List ℕ} (budget : ℕ) → budget < 2 ^ 32 → MovesPairs file g budget m w d v → left budget d ≤ 2 * (budget - m.units)
+pairs_fewer : {file : _} {g : Given} (budget : ℕ) {m : Regs} {d : Due} {w v : List ℕ} → budget < 2 ^ 32 → MovesPairs file g budget m w d v → left budget d ≤ 2 * (budget - m.units)
 unfolding left
 pairs_fewer budget b (too_late h) = omega arith
 pairs_fewer budget b (last_pair {m = m} h n a) = let x = pairs_left budget a in let y = spent_less budget m b h in omega arith
@@ -264,7 +264,7 @@ unfolding left
 head_fewer budget b (no_pairs n a) = tries_left budget a
 head_fewer budget b (then_pairs a r) = let x = tries_left budget a in let y = pairs_fewer budget b r in omega arith
 
-heads_fewer : {file : _} {g : Given} {x : Trial} {m : Regs} {d : Due} {w v : List ℕ} (budget : ℕ) → budget < 2 ^ 32 → TriesHeads file g budget m x w d v → left budget d ≤ 2 * (budget - m.units)
+heads_fewer : {file : _} {g : Given} (budget : ℕ) {x : Trial} {m : Regs} {d : Due} {w v : List ℕ} → budget < 2 ^ 32 → TriesHeads file g budget m x w d v → left budget d ≤ 2 * (budget - m.units)
 unfolding left
 heads_fewer budget b (head_late h) = omega arith
 heads_fewer budget b (last_head {m = m} h a) = let x = head_fewer budget b a in let y = spent_less budget m b h in omega arith

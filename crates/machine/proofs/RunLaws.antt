@@ -208,7 +208,7 @@ module _ (X : Setting) (wanted : ℕ) (o₀ : List ℕ) (small : length o₀ < 2
   wf = good_files_are_well_formed X.file R (X.seen, X.end, X.good)
 
   -- good choices over the cells of a run
-  sound_all : (cs : List Choice) {s : Store} {u c : ℕ} {w : List ℕ} → GoodChoices R wf cs → ChoicesAre X w s u c cs → u ≤ X.limits.cells → SoundAll X cs
+  sound_all : {w : List ℕ} (cs : List Choice) {s : Store} {u c : ℕ} → GoodChoices R wf cs → ChoicesAre X w s u c cs → u ≤ X.limits.cells → SoundAll X cs
   unfolding with_goals
   sound_all _ good no_choices h = none
   sound_all _ good (choices i {n = n} {cs = cs} chain known numbers goal goals less links settled cells trail prior steps older fewer rest) h =
@@ -248,28 +248,28 @@ module _ (X : Setting) (wanted : ℕ) (o₀ : List ℕ) (small : length o₀ < 2
     spent_later : (m : Regs) → m.units < budget → plus m.units 1 ≡ suc m.units
     spent_later m h = plus_small m.units 1 (omega arith) ∙ omega arith
 
-    moves_come : {e r : Due} {t s : Written} {w o v p : List ℕ} → going_on e ≡ true → Moves X.file (given_of X) budget wanted e t w o r s v p → (left : ℕ) (st : State) (d : Done) → DueIs X w wanted room d e st → Holds R wf st
+    moves_come : {e r : Due} {t s : Written} {w o v p : List ℕ} → going_on e ≡ true → Moves X.file (given_of X) budget wanted e t w o r s v p → (left : ℕ) (d : Done) (st : State) → DueIs X w wanted room d e st → Holds R wf st
         → WrittenIs t d o → length d.listed < wanted → left + d.units ≡ budget → Moved r s v p (run R X.limits wanted room left st)
     unfolding move spent spend going_on given_of
-    moves_come g (try_late h) left _ d (is_try t u) hd i few e = is_late left _ d e u h i
-    moves_come g (pair_late h) left _ d (is_pair a f u) hd i few e = is_late left _ d e u h i
-    moves_come g (cut_late h) left _ d (is_cut a u) hd i few e = is_late left _ d e u h i
-    moves_come g (tries_one {x = x} {m = m} {w = w} h b) left _ d (is_try {k = k} {ks = ks} {g = c} {n = n} {cs = cs} t u) hd i few e =
+    moves_come g (try_late h) left d _ (is_try t u) hd i few e = is_late left _ d e u h i
+    moves_come g (pair_late h) left d _ (is_pair a f u) hd i few e = is_late left _ d e u h i
+    moves_come g (cut_late h) left d _ (is_cut a u) hd i few e = is_late left _ d e u h i
+    moves_come g (tries_one {x = x} {m = m} {w = w} h b) left d _ (is_try {k = k} {ks = ks} {g = c} {n = n} {cs = cs} t u) hd i few e =
         let z = spent_later m h in
         goes_on_by left (trying k (choice ks c n) cs) d m e u h hd i few
         (tries_head X wf wanted room w x (later m (plus m.units 1)) k ks c n cs (later_try X w m (plus m.units 1) z t) hd.choices.0 (sound_all cs hd.choices.1 t.run.choices t.run.holds.few) (spend d) b (omega arith))
-    moves_come g (pairs_one {m = m} {w = w} h b) left _ d (is_pair {p = q} {ps = ps} {n = n} {cs = cs} a f u) hd i few e =
+    moves_come g (pairs_one {m = m} {w = w} h b) left d _ (is_pair {p = q} {ps = ps} {n = n} {cs = cs} a f u) hd i few e =
         let z = spent_later m h in
         goes_on_by left (taking q ps n cs) d m e u h hd i few
         (moves_pair X wanted room w (later m (plus m.units 1)) q ps n cs (spend d) (later_at X w m (plus m.units 1) z a) (later_marks X w m (plus m.units 1) z a.run) hd.pairs f (fair_of w m n cs hd.good hd.choices a.run) (omega arith) b)
-    moves_come g (cuts_one {m = m} {w = w} h b) left _ d (is_cut {h = k} {n = n} {cs = cs} a u) hd i few e =
+    moves_come g (cuts_one {m = m} {w = w} h b) left d _ (is_cut {h = k} {n = n} {cs = cs} a u) hd i few e =
         let z = spent_later m h in
         goes_on_by left (cutting k n cs) d m e u h hd i few
         (cut_moves X wanted room w (later m (plus m.units 1)) k n cs (spend d) b (later_at X w m (plus m.units 1) z a) (fair_of w m n cs hd.0.good hd.0.choices (other_goals (cut_to k ∷ n.goals) a)) (omega arith))
-    moves_come g (lists {m = m} {t = t} {w = w} {o = o} b) left _ d (is_answer n cs a f z u) hd i few e =
+    moves_come g (lists {m = m} {t = t} {w = w} {o = o} b) left d _ (is_answer n cs a f z u) hd i few e =
         let x = lists_come m n cs w t d o a f u i few b in
         on left _ x.done x.due_is hd x.written x.few (let y = x.units_are in omega arith) refl
-    moves_come g is_over left st d i hd k few e = absurd (false≢true g)
+    moves_come g is_over left d st i hd k few e = absurd (false≢true g)
 
     -- ---- the whole run
     -- what a run came to: its outcome, and the output
@@ -306,16 +306,16 @@ module _ (X : Setting) (wanted : ℕ) (o₀ : List ℕ) (small : length o₀ < 2
     came_on n s v p r q x here there (late m c z u w e) = subst (Came r q) (sym e) (here m c z u w)
     came_on n s v p r q x here there (on k to c b h w f l e) = subst (Came r q) (sym e) (there k to c b h w f l)
 
-    runs_come : {e : Due} {t : Written} {w o v q : List ℕ} {r : Outcome} → RunsFrom X.file (given_of X) budget wanted e t w o r v q → (left : ℕ) (st : State) (d : Done) → DueIs X w wanted room d e st → Holds R wf st
+    runs_come : {e : Due} {t : Written} {w o v q : List ℕ} {r : Outcome} → RunsFrom X.file (given_of X) budget wanted e t w o r v q → (left : ℕ) (d : Done) (st : State) → DueIs X w wanted room d e st → Holds R wf st
         → WrittenIs t d o → (going_on e ≡ true → length d.listed < wanted) → left + d.units ≡ budget → Came r q (run R X.limits wanted room left st)
     unfolding going_on ended_of
-    runs_come (stops_here g) left _ d (is_try a u) hd i few e = absurd (false≢true (sym g))
-    runs_come (stops_here g) left _ d (is_pair a f u) hd i few e = absurd (false≢true (sym g))
-    runs_come (stops_here g) left _ d (is_cut a u) hd i few e = absurd (false≢true (sym g))
-    runs_come (stops_here g) left _ d (is_answer n cs a f z u) hd i few e = absurd (false≢true (sym g))
-    runs_come (stops_here {t = t} {o = o} g) left _ d (is_over_due n {m = m} u) hd i few e = subst (Came (over_of n m t) o) (sym (run_ended left (end_number n) d)) (came_over n m t d o u i)
-    runs_come {q = q} {r = r} (onward {n = n} {s = s} {v = v} {p = p} g mv rest) left st d a hd i few e =
-        came_on n s v p r q _ (λ m c z u w. came_late n m s c z u w rest) (λ k to c b h w f l. runs_come rest k to c b h w f l) (moves_come g mv left st d a hd i (few g) e)
+    runs_come (stops_here g) left d _ (is_try a u) hd i few e = absurd (false≢true (sym g))
+    runs_come (stops_here g) left d _ (is_pair a f u) hd i few e = absurd (false≢true (sym g))
+    runs_come (stops_here g) left d _ (is_cut a u) hd i few e = absurd (false≢true (sym g))
+    runs_come (stops_here g) left d _ (is_answer n cs a f z u) hd i few e = absurd (false≢true (sym g))
+    runs_come (stops_here {t = t} {o = o} g) left d _ (is_over_due n {m = m} u) hd i few e = subst (Came (over_of n m t) o) (sym (run_ended left (end_number n) d)) (came_over n m t d o u i)
+    runs_come {q = q} {r = r} (onward {n = n} {s = s} {v = v} {p = p} g mv rest) left d st a hd i few e =
+        came_on n s v p r q _ (λ m c z u w. came_late n m s c z u w rest) (λ k to c b h w f l. runs_come rest k c to b h w f l) (moves_come g mv left d st a hd i (few g) e)
 
     nothing_written : WrittenIs nothing_yet nothing o₀
     unfolding nothing output
@@ -330,4 +330,4 @@ module _ (X : Setting) (wanted : ℕ) (o₀ : List ℕ) (small : length o₀ < 2
     -- a run comes to what the definition says
     pub run_comes : {w v q : List ℕ} {r : Outcome} → Base X w → Runs X.file (given_of X) budget wanted w o₀ r v q → Came r q (run R X.limits wanted room budget (start R X.limits wanted room))
     unfolding nothing
-    run_comes b (runs s f) = runs_come f budget _ nothing (start_comes X wanted room b s) (start_holds R wf X.limits wanted room todays.query_keeps) nothing_written (some_wanted s) (omega arith)
+    run_comes b (runs s f) = runs_come f budget nothing _ (start_comes X wanted room b s) (start_holds R wf X.limits wanted room todays.query_keeps) nothing_written (some_wanted s) (omega arith)

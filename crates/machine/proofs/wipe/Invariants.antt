@@ -1,0 +1,8 @@
+use Rattle.std.proofs.Common.{◌≡◌, ◌≤◌, length, replicate, ℕ, ◌+◌, ◌-◌, ◌*◌, ◌<◌}
+use Rattle.meaning.specs.Call.{needed}
+use Rattle.machine.specs.Calling.{allowed, given_of, limits_of, Tested, Can, RunsGood, Called}
+use Rattle.machine.proofs.wipe.Given as goal
+use Rattle.machine.proofs.CallLaws.{Wiping}
+
+abbrev pub invariant-loop-i : goal.invariant-loop-i
+invariant-loop-i l = Wiping l.initial.w l.i-end l.i l.w
