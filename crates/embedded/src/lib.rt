@@ -1,4 +1,4 @@
-// What a C program calls: the exported functions, thin.
+// What a C program calls, thin: crates/embedded_c exports these functions.
 #![tactic(auto)]
 
 mod told;
@@ -34,16 +34,14 @@ fn number(c: Checked) -> u64
 }
 
 // Any bytes are checked as a rule file.
-#[unsafe(no_mangle)]
-pub extern "C" fn pegplanet_check(file: &[u8]) -> u64
+pub fn pegplanet_check(file: &[u8]) -> u64
     ensures { result ≡ checked_number (verdict (parse file.now)) }
 {
     number(check(file))
 }
 
 // The whole call. The words of its result: end or refusal, place, answers, units, bytes, then zeros; as many as there is room for.
-#[unsafe(no_mangle)]
-pub extern "C" fn pegplanet_call(
+pub fn pegplanet_call(
     file: &[u8],
     cells: u32,
     steps: u32,
@@ -100,8 +98,7 @@ fn embedded(file: &[u8], budget: u32, wanted: u32, out: &mut [u8]) -> Outcome
 }
 
 // The embedded form. Of the output at most 4,000,000,000 bytes count as room.
-#[unsafe(no_mangle)]
-pub extern "C" fn pegplanet_run(file: &[u8], budget: u32, wanted: u32, out: &mut [u8]) -> u64
+pub fn pegplanet_run(file: &[u8], budget: u32, wanted: u32, out: &mut [u8]) -> u64
     ensures { EmbedTells file.now budget wanted out.old result out.new }
 {
     if 4000000000 < out.len() {
