@@ -22,10 +22,10 @@ horn: build/extract build/house.rules
 
 # the proofs are gone through again where a file of the crates is newer than the library
 lib: build/libpegplanet.a
-build/libpegplanet.a: crates.txt $(shell find crates -name '*.rt' -o -name '*.antt')
-	rt staticlib embedded
+build/libpegplanet.a: crates.txt $(shell find crates -name out -prune -o \( -name '*.rt' -o -name '*.antt' \) -print)
+	cd crates/embedded_c && rt lib
 	mkdir -p build
-	cp target/staticlib/libembedded.a $@
+	cp crates/embedded_c/out/libembedded_c.a $@
 
 build/libpegplanet.so: build/libpegplanet.a
 	$(CC) -shared $(LDFLAGS) -Wl,-soname,libpegplanet.so -Wl,--whole-archive $< -Wl,--no-whole-archive -o $@

@@ -25,6 +25,4 @@ pub mod QueryCut
 pub mod QueryCutLaws
 pub mod QueryCutCases
 pub mod MoreRoom
-pub mod MoreRoomLaws
-pub mod MoreRoomCases
 pub mod Append

@@ -22,7 +22,7 @@ use Rattle.demands.specs.Proofs.{NoCut, Uncut}
 use Rattle.demands.specs.Demands.{SaysWithin, Says, LeavesBy, Ends, Correct, Complete}
 use Rattle.demands.specs.Rooms.{Small, result_small}
 use Rattle.demands.specs.MoreRoom.{BeginningOf, Raised, Continued}
-use Rattle.demands.specs.MoreRoomLaws.{more_room_embedded, refused_alike}
+use Rattle.demands.proofs.MoreRoomLaws.{more_room_embedded, refused_alike}
 use Rattle.demands.specs.Theorems.{not_refused, third_demand, third_demand_with_cut}
 use Rattle.demands.specs.LargerLaws.{accepted_before, same_result as larger_result, same_embedded as larger_embedded}
 use Rattle.demands.specs.QueryCutLaws.{same_result as cut_result, same_embedded as cut_embedded, settled_result, settled_embedded, at_most_one}

@@ -1,6 +1,6 @@
 -- What the whole call's tests and parts say.
 -- Assumes nothing.
-use Prim.Native.Nat.{ℕ, ◌+◌, ◌-◌, ◌*◌, ◌^◌, ◌≤◌, ◌<◌}
+use Prim.Native.Nat.{ℕ, ◌+◌, ◌*◌, ◌^◌, ◌≤◌, ◌<◌}
 use mathlib.Core.Path.{◌≡◌, refl, sym, ap, ap₂, ◌∙◌, subst}
 use mathlib.Core.Bool.{Bool, true, false, not, false≢true}
 use mathlib.Core.List.{List, ◌++◌, append-nil}
@@ -17,7 +17,7 @@ use Rattle.meaning.specs.Editions.{todays}
 use Rattle.meaning.specs.Rules.{Rules}
 use Rattle.meaning.specs.Reading.{Read, refused, read, parse}
 use Rattle.meaning.specs.Moves.{Done, run, start}
-use Rattle.meaning.specs.Call.{Result, refusal, end, result_by, ending, run_read, in_range, needed, output_after, scratch_after}
+use Rattle.meaning.specs.Call.{Result, refusal, result_by, ending, run_read, in_range, needed, output_after, scratch_after}
 use Rattle.meaning.specs.Outcome.{says, to_say}
 use Rattle.meaning.specs.declared.Place.{Place}
 use Rattle.meaning.specs.declared.Outcome.{Outcome}

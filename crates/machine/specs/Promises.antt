@@ -27,7 +27,7 @@ use Rattle.demands.specs.LargerLaws.{same_result as larger_result}
 use Rattle.demands.specs.QueryCutLaws.{same_result as cut_result, settled_result, at_most_one}
 use Rattle.demands.specs.Rooms.{Small, result_small}
 use Rattle.demands.specs.MoreRoom.{Given, Raised, Continued}
-use Rattle.demands.specs.MoreRoomLaws.{more_room}
+use Rattle.demands.proofs.MoreRoomLaws.{more_room}
 use Rattle.search.specs.declared.Limits.{Limits}
 use Rattle.machine.specs.Calling.{limits_of, result_of, Called}
 

@@ -1,6 +1,6 @@
 -- What matching comes to is one: one result, one content of scratch.
 -- Assumes nothing.
-use Rattle.std.specs.Prelude.{ℕ, ◌-◌, ◌≡◌, refl, List}
+use Rattle.std.specs.Prelude.{ℕ, ◌≡◌, refl, List}
 use Rattle.std.proofs.Common.{sym, ap, ◌∙◌, arith}
 use Rattle.std.proofs.lemmas.Bool.{false≢true}
 use Rattle.meaning.specs.declared.CellNumber.{CellNumber}

@@ -12,7 +12,7 @@ use Rattle.meaning.specs.If.{if◌then◌else◌}
 use Rattle.meaning.specs.Terms.{Terms}
 use Rattle.meaning.specs.Kinds.{a_clause, a_goal, a_cut, a_query, the_end, level_limit, variable_limit, goal_limit, clause_limit, body_length, body_lengths, todays_limits}
 use Rattle.meaning.specs.Rules.{Goal, call, Clause, Rules}
-use Rattle.meaning.specs.Reading.{Read, read, Reader, after, ◌>>=◌, ◌>>◌, give, need, terms, goals, none_seen, all_seen, goal_due, end_due}
+use Rattle.meaning.specs.Reading.{Read, Reader, after, ◌>>=◌, ◌>>◌, give, need, terms, goals, none_seen, all_seen, goal_due, end_due}
 use Rattle.meaning.specs.Reading.{byte, two_bytes, next, term, arguments, called, goal, clause, query, no_more}
 use Rattle.meaning.specs.declared.Place.{Place}
 use Rattle.reading.specs.Verdict.{place}

@@ -10,7 +10,7 @@ use Rattle.meaning.specs.Rules.{Clause, Rules}
 use Rattle.meaning.specs.Reading.{Read, refused, read, Reader, after, ◌>>=◌, ◌>>◌, give, end_due}
 use Rattle.meaning.specs.Reading.{byte, next, query, no_more, items, parse}
 use Rattle.meaning.specs.declared.Place.{Place}
-use Rattle.reading.specs.Verdict.{place, verdict, counted}
+use Rattle.reading.specs.Verdict.{verdict, counted}
 use Rattle.reading.specs.Arities.{functions_of, predicates_of}
 use Rattle.reading.specs.SoFar.{SoFar, Pairs, Counted, of_functions, of_predicates, Declared, Rowed}
 use Rattle.reading.specs.Steps.{step, only, last}

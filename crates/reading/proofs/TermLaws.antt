@@ -12,7 +12,7 @@ use borrow.Author.Tests.{lt-ltb, le-ltb, le-leb, lt-leb, eq-eqb, ne_eqb, eqb-tru
 use Rattle.meaning.specs.If.{if◌then◌else◌}
 use Rattle.meaning.specs.Terms.{Term, Terms, app, ◌∷ₜ◌}
 use Rattle.meaning.specs.Kinds.{a_variable, an_application, body_length, body_lengths}
-use Rattle.meaning.specs.Reading.{read, Reader, after, ◌>>=◌, ◌>>◌, give, refuse, need, terms, term_due}
+use Rattle.meaning.specs.Reading.{Reader, after, ◌>>=◌, ◌>>◌, give, refuse, need, terms, term_due}
 use Rattle.meaning.specs.Reading.{byte, two_bytes, next, variable, applied, term}
 use Rattle.meaning.specs.declared.Place.{Place}
 use Rattle.reading.specs.Verdict.{place}

@@ -1,6 +1,6 @@
 -- What going back, going on, a cut and the start come to is one: one result, one content of scratch.
 -- Assumes nothing.
-use Rattle.std.specs.Prelude.{ℕ, ◌-◌, ◌≡◌, refl, List}
+use Rattle.std.specs.Prelude.{ℕ, ◌≡◌, refl, List}
 use Rattle.std.proofs.Common.{sym, ap, ◌∙◌, arith}
 use Rattle.cells.specs.declared.Layout.{Layout}
 use Rattle.cells.specs.Unique.{Once}

@@ -8,7 +8,7 @@ use mathlib.Core.List.{List, [], ◌∷◌}
 use native.Mathlib.Omega.{arith}
 use Rattle.std.proofs.Math.ListN.{drop}
 use Rattle.meaning.specs.Store.{Store}
-use Rattle.meaning.specs.Moves.{Open, cut_to, Derivation, Choice, choice, Pair, Done, keep, with_goals, go_on, matching}
+use Rattle.meaning.specs.Moves.{Open, cut_to, Derivation, Choice, Pair, Done, keep, with_goals, go_on, matching}
 use Rattle.demands.specs.Order.{keep_all}
 use Rattle.words.specs.Words.{ahead}
 use Rattle.search.specs.Search.{step_word, MatchesOn, matched, more, kept_of, cut_regs, MovesCut, cuts}

@@ -12,7 +12,7 @@ use Rattle.meaning.specs.Terms.{Terms, count, insts, from}
 use Rattle.meaning.specs.Rules.{Call}
 use Rattle.meaning.specs.Reading.{byte}
 use Rattle.meaning.specs.Store.{Store}
-use Rattle.meaning.specs.Moves.{Open, goal, Derivation, Numbered, Choice, choice, pairs, over, body_goal, with_step}
+use Rattle.meaning.specs.Moves.{Open, Derivation, Numbered, Choice, choice, pairs, over, body_goal, with_step}
 use Rattle.meaning.specs.Call.{needed}
 use Rattle.demands.specs.TermLaws.{count_insts}
 use Rattle.demands.specs.StoreLaws.{Free, Sound}

@@ -1,6 +1,6 @@
 -- Taking the first open goal comes to what the definition says.
 -- Assumes nothing.
-use Rattle.std.specs.Prelude.{ℕ, ◌+◌, ◌-◌, ◌^◌, ◌≤◌, ◌<◌, ◌≡◌, length}
+use Rattle.std.specs.Prelude.{ℕ, ◌+◌, ◌^◌, ◌≤◌, ◌<◌, ◌≡◌, length}
 use Rattle.std.proofs.Math.Path.{refl, ap, sym}
 use Rattle.std.proofs.Common.{◌∙◌, subst, arith, mod-eq_of_lt}
 use mathlib.Core.List.{List, [], ◌∷◌}

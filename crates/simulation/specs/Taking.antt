@@ -15,7 +15,7 @@ use Rattle.meaning.specs.Reading.{byte}
 use Rattle.meaning.specs.Store.{Store, bind, value, follow}
 use Rattle.meaning.specs.Outcome.{end_number}
 use Rattle.meaning.specs.declared.End.TheVariants.{Work}
-use Rattle.meaning.specs.Moves.{Derivation, Choice, choice, Pair, pairs, Done, State, ended, with_binding, fail, matching, binding, compared, take_pair}
+use Rattle.meaning.specs.Moves.{Derivation, Choice, Pair, pairs, Done, State, ended, with_binding, fail, matching, binding, compared, take_pair}
 use Rattle.meaning.specs.Call.{needed}
 use Rattle.laws.specs.IfLaws.{if_true, if_false}
 use Rattle.demands.specs.TermLaws.{occurs_false, count_insts}

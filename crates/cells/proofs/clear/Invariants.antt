@@ -1,5 +1,3 @@
-use Rattle.std.proofs.Common.{◌≡◌, ◌+◌, ◌<◌, set, ℕ, ◌-◌, ◌*◌, ◌≤◌, length}
-use Rattle.cells.specs.Cells.{word_of, cell_of, cell_at, node_of, hop_of, followed, undone, freed, Visit, Meet, width_of, Small, Scan, ScanHeld, LookInto, Inside}
 use Rattle.cells.proofs.clear.Given as goal
 use Rattle.cells.proofs.Laws.{Clearing}
 

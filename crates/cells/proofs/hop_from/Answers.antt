@@ -1,16 +1,14 @@
-use Rattle.std.proofs.Common.{rules, ◌≡◌, ◌+◌, ◌<◌, set, ℕ, ◌-◌, ◌*◌, ◌≤◌, length, ◌/◌, ◌%◌, Bool, true, false, nat_eq, nat_lt, List, [], ◌∷◌, ◌++◌, slice_index_or, bit_and, bit_or, Fits, w8, w32, w64, Bor, MutBor}
-use Rattle.cells.specs.Cells.{word_of, cell_of, cell_at, node_of, hop_of, followed, undone, freed, Visit, Meet, width_of, Small, Scan, ScanHeld, LookInto, Inside}
 use Rattle.cells.proofs.hop_from.Goals as goal
 use Rattle.cells.proofs.Laws.{hop_bound, hop_free, hop_function}
 
 -- src/lib.rt:98:1
 pub returns-in-Applied : goal.returns-in-Applied
-returns-in-Applied c = search (hop_function, hop_free, hop_bound)
+returns-in-Applied c = search hop_function
 
 -- src/lib.rt:98:1
 pub returns-in-Free : goal.returns-in-Free
-returns-in-Free c = search (hop_function, hop_free, hop_bound)
+returns-in-Free c = search hop_free
 
 -- src/lib.rt:98:1
 pub returns-in-Bound : goal.returns-in-Bound
-returns-in-Bound c = search (hop_function, hop_free, hop_bound)
+returns-in-Bound c = search hop_bound

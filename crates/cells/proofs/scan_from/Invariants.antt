@@ -1,5 +1,4 @@
-use Rattle.std.proofs.Common.{◌≡◌, ◌+◌, ◌<◌, set, ℕ, ◌-◌, ◌*◌, ◌≤◌, length}
-use Rattle.cells.specs.Cells.{word_of, cell_of, cell_at, node_of, hop_of, followed, undone, freed, Visit, Meet, width_of, Small, Scan, ScanHeld, LookInto, Inside}
+use Rattle.std.proofs.Common.{◌-◌}
 use Rattle.cells.proofs.scan_from.Given as goal
 use Rattle.cells.proofs.Laws.{Scanning}
 

@@ -1,6 +1,3 @@
-use Rattle.std.proofs.Common.{◌≡◌, ◌≤◌, length, replicate, ℕ, ◌+◌, ◌-◌, ◌*◌, ◌<◌}
-use Rattle.meaning.specs.Call.{needed}
-use Rattle.machine.specs.Calling.{allowed, given_of, limits_of, Tested, Can, RunsGood, Called}
 use Rattle.machine.proofs.wipe.Given as goal
 use Rattle.machine.proofs.CallLaws.{Wiping}
 

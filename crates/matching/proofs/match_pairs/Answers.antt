@@ -1,7 +1,5 @@
-use Rattle.std.proofs.Common.{rules, ◌≡◌, ◌+◌, ◌*◌, ◌-◌, ℕ, ◌<◌, ◌≤◌, length, ◌/◌, ◌%◌, Bool, true, false, nat_eq, nat_lt, List, [], ◌∷◌, ◌++◌, slice_index_or, slice_set, bit_and, bit_or, Fits, w8, w32, w64, Bor, MutBor}
-use Rattle.matching.specs.Matching.{put_four, held_at, place_after, word_of_place, pushed, past_kind, bound_to, one_bound, BindChecked, BindHead, Functions, front_of, Compares, TakesPair, MatchesPairs}
 use Rattle.matching.proofs.match_pairs.Goals as goal
-use Rattle.matching.proofs.Laws.{match_again, match_all, match_crowded, match_differed, match_late, match_less, match_start}
+use Rattle.matching.proofs.Laws.{match_again, match_all, match_crowded, match_differed, match_late, match_less}
 
 -- src/lib.rt:311:21
 pub returns-then-work-eq0 : goal.returns-then-work-eq0

@@ -1,5 +1,4 @@
-use Rattle.std.proofs.Common.{◌-◌, ◌≡◌, ◌+◌, ◌*◌, ℕ, ◌<◌, ◌≤◌, length}
-use Rattle.matching.specs.Matching.{put_four, held_at, place_after, word_of_place, pushed, past_kind, bound_to, one_bound, BindChecked, BindHead, Functions, front_of, Compares, TakesPair, MatchesPairs}
+use Rattle.std.proofs.Common.{◌-◌}
 use Rattle.matching.proofs.match_pairs.Given as goal
 use Rattle.matching.proofs.Laws.{Matching}
 

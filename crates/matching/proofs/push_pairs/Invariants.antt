@@ -1,5 +1,3 @@
-use Rattle.std.proofs.Common.{◌≡◌, ◌+◌, ◌*◌, ◌-◌, ℕ, ◌<◌, ◌≤◌, length}
-use Rattle.matching.specs.Matching.{put_four, held_at, place_after, word_of_place, pushed, past_kind, bound_to, one_bound, BindChecked, BindHead, Functions, front_of, Compares, TakesPair, MatchesPairs}
 use Rattle.matching.proofs.push_pairs.Given as goal
 use Rattle.matching.proofs.Laws.{Pushing}
 

@@ -1,5 +1,3 @@
-use Rattle.std.proofs.Common.{rules, ◌≡◌, ℕ, ◌+◌, ◌-◌, ◌*◌, ◌<◌, ◌≤◌, length, ◌/◌, ◌%◌, Bool, true, false, nat_eq, nat_lt, List, [], ◌∷◌, ◌++◌, slice_index_or, slice_set, bit_and, bit_or, Fits, w8, w32, w64, Bor, MutBor}
-use Rattle.search.specs.Search.{step_word, settled_next, clause_place_word, clause_next_word, below_of, step_next, rest_word, retried, Backs, trial_of, first_word, GoesOn, step_put, room_of, arity_at, paired, entered_regs, Enters, kept_of, MovesCut, Starts}
 use Rattle.search.proofs.back.Goals as goal
 use Rattle.search.proofs.Laws.{back_again, back_less, back_none, back_retry}
 
@@ -10,12 +8,12 @@ returns-then-rest-gt0 c =
 
 -- src/lib.rt:177:5
 pub loop-c-smaller : goal.loop-c-smaller
-loop-c-smaller c = search (back_less, back_again, back_none)
+loop-c-smaller c = search back_less
 
 -- src/lib.rt:177:5
 pub loop-c-preserved : goal.loop-c-preserved
-loop-c-preserved c = search (back_less, back_again, back_none)
+loop-c-preserved c = search back_again
 
 -- src/lib.rt:172:1
 pub returns : goal.returns
-returns c = search (back_less, back_again, back_none)
+returns c = search back_none

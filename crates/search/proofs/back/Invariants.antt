@@ -1,5 +1,3 @@
-use Rattle.std.proofs.Common.{◌≡◌, ℕ, ◌+◌, ◌-◌, ◌*◌, ◌<◌, ◌≤◌, length}
-use Rattle.search.specs.Search.{step_word, settled_next, clause_place_word, clause_next_word, below_of, step_next, rest_word, retried, Backs, trial_of, first_word, GoesOn, step_put, room_of, arity_at, paired, entered_regs, Enters, kept_of, MovesCut, Starts}
 use Rattle.search.proofs.back.Given as goal
 use Rattle.search.proofs.Laws.{Backing}
 

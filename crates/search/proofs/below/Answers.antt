@@ -1,12 +1,10 @@
-use Rattle.std.proofs.Common.{rules, ◌≡◌, ℕ, ◌+◌, ◌-◌, ◌*◌, ◌<◌, ◌≤◌, length, ◌/◌, ◌%◌, Bool, true, false, nat_eq, nat_lt, List, [], ◌∷◌, ◌++◌, slice_index_or, slice_set, bit_and, bit_or, Fits, w8, w32, w64, Bor, MutBor}
-use Rattle.search.specs.Search.{step_word, settled_next, clause_place_word, clause_next_word, below_of, step_next, rest_word, retried, Backs, trial_of, first_word, GoesOn, step_put, room_of, arity_at, paired, entered_regs, Enters, kept_of, MovesCut, Starts}
 use Rattle.search.proofs.below.Goals as goal
 use Rattle.search.proofs.Laws.{below_less, below_none}
 
 -- src/lib.rt:111:1
 pub returns-then-a-b : goal.returns-then-a-b
-returns-then-a-b c = search (below_less, below_none)
+returns-then-a-b c = search below_less
 
 -- src/lib.rt:111:1
 pub returns-else-a-b : goal.returns-else-a-b
-returns-else-a-b c = search (below_less, below_none)
+returns-else-a-b c = search below_none

@@ -1,7 +1,4 @@
-use Rattle.std.proofs.Common.{rules, arith, ◌≡◌, ◌+◌, ◌*◌, ◌^◌, ◌<◌, ◌≤◌, length, ℕ, ◌-◌, ◌/◌, ◌%◌, Bool, true, false, nat_eq, nat_lt, List, [], ◌∷◌, ◌++◌, slice_index_or, slice_set, bit_and, bit_or, Fits, w8, w32, w64, Bor, MutBor}
-use Rattle.meaning.specs.Reading.{two_bytes}
-use Rattle.tables.specs.Laid.{clear, links}
-use Rattle.tables.specs.Here.{CanTerm, HasTerm, CanTerms, HasTerms, CanArguments, HasArguments, CanGoal, HasGoal, CanGoals, HasGoals, CanClause, HasClause, CanClauses, HasClauses, CanLink, CanLay, HasLaid}
+use Rattle.std.proofs.Common.{rules, arith, ◌<◌}
 use Rattle.tables.proofs.+lay_arguments_lay_term_lay_terms.Goals as goal
 use Rattle.tables.proofs.Walks.{arguments_end, arguments_terms, term_application, term_arguments, term_deep, term_variable, terms_again, terms_can, terms_end, terms_start}
 

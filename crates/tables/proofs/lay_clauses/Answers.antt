@@ -1,9 +1,5 @@
-use Rattle.std.proofs.Common.{rules, ◌≡◌, ◌+◌, ◌*◌, ◌^◌, ◌<◌, ◌≤◌, length, ℕ, ◌-◌, ◌/◌, ◌%◌, Bool, true, false, nat_eq, nat_lt, List, [], ◌∷◌, ◌++◌, slice_index_or, slice_set, bit_and, bit_or, Fits, w8, w32, w64, Bor, MutBor}
-use Rattle.meaning.specs.Reading.{two_bytes}
-use Rattle.tables.specs.Laid.{clear, links}
-use Rattle.tables.specs.Here.{CanTerm, HasTerm, CanTerms, HasTerms, CanArguments, HasArguments, CanGoal, HasGoal, CanGoals, HasGoals, CanClause, HasClause, CanClauses, HasClauses, CanLink, CanLay, HasLaid}
 use Rattle.tables.proofs.lay_clauses.Goals as goal
-use Rattle.tables.proofs.Walks.{clauses_again, clauses_can, clauses_end, clauses_long, clauses_number, clauses_start}
+use Rattle.tables.proofs.Walks.{clauses_again, clauses_can, clauses_end, clauses_number}
 
 -- src/lib.rt:134:13
 pub number-q-requires : goal.number-q-requires

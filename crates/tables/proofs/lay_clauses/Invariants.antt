@@ -1,7 +1,4 @@
-use Rattle.std.proofs.Common.{◌-◌, ◌≡◌, ◌+◌, ◌*◌, ◌^◌, ◌<◌, ◌≤◌, length, ℕ}
-use Rattle.meaning.specs.Reading.{two_bytes}
-use Rattle.tables.specs.Laid.{clear, links}
-use Rattle.tables.specs.Here.{CanTerm, HasTerm, CanTerms, HasTerms, CanArguments, HasArguments, CanGoal, HasGoal, CanGoals, HasGoals, CanClause, HasClause, CanClauses, HasClauses, CanLink, CanLay, HasLaid}
+use Rattle.std.proofs.Common.{◌-◌}
 use Rattle.tables.proofs.lay_clauses.Given as goal
 use Rattle.tables.proofs.Walks.{GoingClauses}
 

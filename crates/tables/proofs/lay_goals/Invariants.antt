@@ -1,7 +1,3 @@
-use Rattle.std.proofs.Common.{◌≡◌, ◌+◌, ◌*◌, ◌^◌, ◌<◌, ◌≤◌, length, ℕ, ◌-◌}
-use Rattle.meaning.specs.Reading.{two_bytes}
-use Rattle.tables.specs.Laid.{clear, links}
-use Rattle.tables.specs.Here.{CanTerm, HasTerm, CanTerms, HasTerms, CanArguments, HasArguments, CanGoal, HasGoal, CanGoals, HasGoals, CanClause, HasClause, CanClauses, HasClauses, CanLink, CanLay, HasLaid}
 use Rattle.tables.proofs.lay_goals.Given as goal
 use Rattle.tables.proofs.Walks.{GoingGoals}
 

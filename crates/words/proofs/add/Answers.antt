@@ -1,6 +1,5 @@
-use Rattle.std.proofs.Common.{rules, ◌≡◌, ◌+◌, ◌*◌, ◌%◌, ◌^◌, ◌<◌, slice_index, slice_set, ℕ, ◌-◌, ◌≤◌, length, ◌/◌, Bool, true, false, nat_eq, nat_lt, List, [], ◌∷◌, ◌++◌, slice_index_or, bit_and, bit_or, Fits, w8, w32, w64, Bor, MutBor}
-use Rattle.meaning.specs.Reading.{byte, two_bytes}
-use Rattle.words.specs.Words.{plus, ahead}
+use Rattle.std.proofs.Common.{rules}
+use Rattle.words.specs.Words.{plus}
 use Rattle.words.proofs.add.Goals as goal
 use Rattle.words.specs.Words.{plus}
 

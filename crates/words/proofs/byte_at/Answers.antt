@@ -1,6 +1,4 @@
-use Rattle.std.proofs.Common.{rules, ◌≡◌, ◌+◌, ◌*◌, ◌%◌, ◌^◌, ◌<◌, slice_index, slice_set, ℕ, ◌-◌, ◌≤◌, length, ◌/◌, Bool, true, false, nat_eq, nat_lt, List, [], ◌∷◌, ◌++◌, slice_index_or, bit_and, bit_or, Fits, w8, w32, w64, Bor, MutBor}
-use Rattle.meaning.specs.Reading.{byte, two_bytes}
-use Rattle.words.specs.Words.{plus, ahead}
+use Rattle.meaning.specs.Reading.{byte}
 use Rattle.words.proofs.byte_at.Goals as goal
 use Rattle.meaning.specs.Reading.{byte}
 use Rattle.words.proofs.Laws.{get_out}

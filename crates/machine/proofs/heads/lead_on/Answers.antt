@@ -1,20 +1,18 @@
-use Rattle.std.proofs.Common.{rules, ◌≡◌, ℕ, ◌+◌, ◌-◌, ◌*◌, ◌<◌, ◌≤◌, length, ◌/◌, ◌%◌, Bool, true, false, nat_eq, nat_lt, List, [], ◌∷◌, ◌++◌, slice_index_or, slice_set, bit_and, bit_or, Fits, w8, w32, w64, Bor, MutBor}
-use Rattle.machine.specs.Running.{spent, Leads, MatchesHead, TriesPairs, TriesHeads}
 use Rattle.machine.proofs.heads.lead_on.Goals as goal
 use Rattle.machine.proofs.HeadLaws.{lead_back, lead_late, lead_on, lead_over}
 
 -- src/heads.rt:22:1
 pub returns-in-Matched : goal.returns-in-Matched
-returns-in-Matched c = search (lead_on, lead_back, lead_over, lead_late)
+returns-in-Matched c = search (lead_on, lead_back)
 
 -- src/heads.rt:22:1
 pub returns-in-Differed : goal.returns-in-Differed
-returns-in-Differed c = search (lead_on, lead_back, lead_over, lead_late)
+returns-in-Differed c = search (lead_on, lead_back)
 
 -- src/heads.rt:22:1
 pub returns-in-Crowded : goal.returns-in-Crowded
-returns-in-Crowded c = search (lead_on, lead_back, lead_over, lead_late)
+returns-in-Crowded c = search (lead_on, lead_back, lead_over)
 
 -- src/heads.rt:22:1
 pub returns-in-Late : goal.returns-in-Late
-returns-in-Late c = search (lead_on, lead_back, lead_over, lead_late)
+returns-in-Late c = search (lead_on, lead_back, lead_late)

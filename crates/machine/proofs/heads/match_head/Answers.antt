@@ -1,5 +1,3 @@
-use Rattle.std.proofs.Common.{rules, ◌≡◌, ℕ, ◌+◌, ◌-◌, ◌*◌, ◌<◌, ◌≤◌, length, ◌/◌, ◌%◌, Bool, true, false, nat_eq, nat_lt, List, [], ◌∷◌, ◌++◌, slice_index_or, slice_set, bit_and, bit_or, Fits, w8, w32, w64, Bor, MutBor}
-use Rattle.machine.specs.Running.{spent, Leads, MatchesHead, TriesPairs, TriesHeads}
 use Rattle.machine.proofs.heads.match_head.Goals as goal
 use Rattle.machine.proofs.HeadLaws.{head_leads, head_whole}
 

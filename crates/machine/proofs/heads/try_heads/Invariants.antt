@@ -1,5 +1,3 @@
-use Rattle.std.proofs.Common.{◌-◌, ◌≡◌, ℕ, ◌+◌, ◌*◌, ◌<◌, ◌≤◌, length}
-use Rattle.machine.specs.Running.{spent, Leads, MatchesHead, TriesPairs, TriesHeads}
 use Rattle.machine.proofs.heads.try_heads.Given as goal
 use Rattle.machine.proofs.HeadLaws.{Trying}
 use Rattle.machine.proofs.Laws.{units_left}

@@ -1,5 +1,3 @@
-use Rattle.std.proofs.Common.{◌≡◌, ◌≤◌, length, ℕ, ◌+◌, ◌-◌, ◌*◌, ◌<◌}
-use Rattle.machine.specs.Running.{going_on, over_of, ended_of, behind_of, WritesBehind, Lists, NoPair, Turns, Runs}
 use Rattle.machine.proofs.run.run.Given as goal
 use Rattle.machine.proofs.Laws.{Running, left}
 

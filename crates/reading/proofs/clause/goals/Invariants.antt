@@ -1,8 +1,7 @@
-use Rattle.std.proofs.Common.{◌≡◌, ◌+◌, ◌*◌, ◌≤◌, ◌<◌, length, [], ℕ, ◌-◌}
+use Rattle.std.proofs.Common.{◌≡◌}
 use Rattle.meaning.specs.Reading as definition
 use Rattle.reading.specs.Arities.{over}
-use Rattle.reading.specs.Steps.{step, in_range}
-use Rattle.reading.specs.Steps as steps
+use Rattle.reading.specs.Steps.{step}
 use Rattle.reading.proofs.clause.goals.Given as goal
 use Rattle.reading.specs.Arities.{over}
 use Rattle.reading.specs.Steps.{step}

@@ -1,9 +1,4 @@
-use Rattle.std.proofs.Common.{◌≡◌, ◌+◌, ◌*◌, ◌≤◌, ◌<◌, length, ◌&&◌, leb, ltb, ℕ, ◌-◌}
-use Rattle.meaning.specs.Kinds.{body_length, a_clause, arity_limit}
-use Rattle.meaning.specs.Reading as definition
-use Rattle.reading.specs.SoFar.{SoFar, Counted, Rowed}
-use Rattle.reading.specs.Steps.{step}
-use Rattle.reading.specs.Steps as steps
+use Rattle.std.proofs.Common.{◌-◌}
 use Rattle.reading.proofs.row.arities.Given as goal
 use Rattle.reading.proofs.RowLaws.{Turn}
 

@@ -1,9 +1,6 @@
-use Rattle.std.proofs.Common.{◌≡◌, ◌+◌, ◌*◌, ◌≤◌, ◌<◌, length, ◌&&◌, leb, ltb, ℕ, ◌-◌}
-use Rattle.meaning.specs.Kinds.{body_length, clause_limit, a_clause, arity_limit}
-use Rattle.meaning.specs.Reading as definition
-use Rattle.reading.specs.SoFar.{SoFar, Counted, Rowed}
-use Rattle.reading.specs.Steps.{step}
-use Rattle.reading.specs.Steps as steps
+use Rattle.std.proofs.Common.{◌-◌}
+use Rattle.meaning.specs.Kinds.{clause_limit, a_clause}
+use Rattle.reading.specs.SoFar.{SoFar}
 use Rattle.reading.proofs.row.clauses.Given as goal
 use Rattle.reading.specs.SoFar.{SoFar}
 

@@ -1,6 +1,6 @@
-use Rattle.std.proofs.Common.{◌≡◌, ◌+◌, ◌*◌, ◌≤◌, ◌<◌, length, ℕ, ◌-◌}
+use Rattle.std.proofs.Common.{◌≡◌, ◌+◌, ◌*◌}
 use Rattle.meaning.specs.Reading as definition
-use Rattle.reading.specs.Arities.{arities, functions_of, arity}
+use Rattle.reading.specs.Arities.{functions_of}
 use Rattle.reading.specs.Steps.{step}
 use Rattle.reading.proofs.term.+term_terms.Given as goal
 

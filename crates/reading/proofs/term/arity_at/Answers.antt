@@ -1,7 +1,3 @@
-use Rattle.std.proofs.Common.{rules, ◌≡◌, ◌+◌, ◌*◌, ◌≤◌, ◌<◌, length, ℕ, ◌-◌, ◌/◌, ◌%◌, Bool, true, false, nat_eq, nat_lt, List, [], ◌∷◌, ◌++◌, slice_index_or, slice_set, bit_and, bit_or, Fits, w8, w32, w64, Bor, MutBor}
-use Rattle.meaning.specs.Reading as definition
-use Rattle.reading.specs.Arities.{arities, functions_of, arity}
-use Rattle.reading.specs.Steps.{step}
 use Rattle.reading.proofs.term.arity_at.Goals as goal
 use Rattle.reading.proofs.TermLaws.{arity_known, arity_unknown}
 

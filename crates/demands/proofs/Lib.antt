@@ -1,0 +1,2 @@
+pub mod MoreRoomLaws
+pub mod MoreRoomCases
