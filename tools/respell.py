@@ -4,6 +4,7 @@
 Words are in snake case and types in camel case: a dash in a name of the repository's own becomes an underscore, or, where the name begins with a
 capital, goes and the next letter is a capital; a middle dot in the same way. A name that is imported from outside the repository keeps its spelling,
 and so does one that a file of proofs/F/ alone has, since those files are made anew. The names in README.md and docs/ follow, between backquotes.
+The choice by a test of crates/meaning/specs/If.antt is written `when t then x else y`, since `if` is the library's.
 """
 import glob
 import re
@@ -52,6 +53,13 @@ def names_of(files):
     return own, all_names
 
 
+def chosen(text):
+    """The text with `when` for the repository's own `if`, comments as they are."""
+    text = text.replace("if◌then◌else◌", "when◌then◌else◌")
+    lines = [re.sub(r"(?<![\w◌'-])if(?![\w◌'-])", "when", code(line)) + line[len(code(line)) :] for line in text.split("\n")]
+    return "\n".join(lines)
+
+
 def main():
     files = sorted(glob.glob("crates/**/*.antt", recursive=True))
     own, all_names = names_of(files)
@@ -59,6 +67,8 @@ def main():
     for file in files + sorted(glob.glob("crates/**/*.rt", recursive=True)):
         old = open(file).read()
         new = TOKEN.sub(change, old)
+        if file.endswith(".antt"):
+            new = chosen(new)
         if new != old:
             open(file, "w").write(new)
     known = {respelt(n) for n in own} | all_names

@@ -2,7 +2,7 @@
 -- Assumes nothing.
 use Rattle.std.specs.Prelude.{ℕ, ◌+◌, ◌≤◌, ◌≡◌, refl, false, List, length}
 use Rattle.std.proofs.Common.{◌∙◌, arith}
-use Rattle.meaning.specs.If.{if◌then◌else◌}
+use Rattle.meaning.specs.If.{when◌then◌else◌}
 use Rattle.meaning.specs.Answers.{stops}
 use Rattle.cells.specs.declared.Held.{Held}
 use Rattle.cells.specs.declared.Found.{Found}
@@ -17,7 +17,7 @@ use Rattle.answers.specs.Answering.{last_size, Finishes, value_crowded, value_fu
 
 -- no record is written while the answer is measured
 pub recorded_measured : (i kind n : ℕ) (o : List ℕ) → recorded false i kind n o ≡ o
-unfolding recorded if◌then◌else◌
+unfolding recorded when◌then◌else◌
 recorded_measured i kind n o = refl
 
 pub free_measured : {lay : Layout} {t r : Tally} {x : ℕ} {w o v p : List ℕ} → FreeNode lay false t x w o r v p → p ≡ o

@@ -2,7 +2,7 @@
 -- the room or the nodes due pass the limit W. What is measured and what is written differ in the bytes of the output alone.
 -- Assumes nothing.
 use Rattle.std.specs.Prelude.{ℕ, zero, suc, ◌+◌, ◌-◌, ◌*◌, ◌%◌, ◌≤◌, ◌<◌, ◌≡◌, Bool, List, ltb, length, get_or, set}
-use Rattle.meaning.specs.If.{if◌then◌else◌}
+use Rattle.meaning.specs.If.{when◌then◌else◌}
 use Rattle.meaning.specs.Kinds.{an_application, an_answer_variable}
 use Rattle.meaning.specs.Reading.{byte}
 use Rattle.meaning.specs.declared.CellNumber.{CellNumber}
@@ -29,7 +29,7 @@ pub data Number (lay : Layout) (x free : ℕ) (w : List ℕ) : ℕ → List ℕ 
 
 -- how many have appeared then
 unfoldable pub appeared_of : ℕ → ℕ → ℕ
-appeared_of free number = if ltb number free then free else plus number 1
+appeared_of free number = when ltb number free then free else plus number 1
 
 -- the term that is due at i, and the words after a term is due there: its place, and the cell its variables are counted from
 unfoldable pub due_at : List ℕ → Layout → ℕ → Held

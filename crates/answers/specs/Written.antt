@@ -1,7 +1,7 @@
 -- The records of an answer in the bytes of the output.
 -- Assumes nothing.
 use Rattle.std.specs.Prelude.{ℕ, zero, suc, ◌+◌, ◌*◌, ◌/◌, ◌%◌, ◌≡◌, refl, Bool, List, [], ◌∷◌, map, get_or, set}
-use Rattle.meaning.specs.If.{if◌then◌else◌}
+use Rattle.meaning.specs.If.{when◌then◌else◌}
 use Rattle.meaning.specs.Kinds.{body_lengths, body_length, an_application, an_answer, an_answer_variable, a_step, the_answer_end}
 use Rattle.words.specs.Words.{ahead}
 use Rattle.cells.specs.declared.Layout.{Layout}
@@ -37,7 +37,7 @@ record_put i kind n o = two_put (ahead i 1) n (set o i (kind % 256))
 
 -- the same while the answer is written; nothing while it is measured
 unfoldable pub recorded : Bool → ℕ → ℕ → ℕ → List ℕ → List ℕ
-recorded write i kind n o = if write then record_put i kind n o else o
+recorded write i kind n o = when write then record_put i kind n o else o
 
 -- the first record: how many free variables and how many steps the answer has
 unfoldable pub first_put : ℕ → ℕ → List ℕ → List ℕ

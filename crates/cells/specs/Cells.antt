@@ -1,7 +1,7 @@
 -- What the functions over cells do, word for word.
 -- Assumes nothing.
 use Rattle.std.specs.Prelude.{ℕ, zero, suc, ◌+◌, ◌-◌, ◌*◌, ◌/◌, ◌%◌, ◌≤◌, ◌<◌, ◌≡◌, Bool, true, false, List, eqb, leb, get_or, set}
-use Rattle.meaning.specs.If.{if◌then◌else◌}
+use Rattle.meaning.specs.If.{when◌then◌else◌}
 use Rattle.meaning.specs.Kinds.{a_variable}
 use Rattle.meaning.specs.Reading.{byte, two_bytes}
 use Rattle.meaning.specs.declared.CellNumber.{CellNumber}
@@ -23,14 +23,14 @@ unfoldable pub word_of : Held → ℕ
 word_of h = plus ((h.place.0 % 65536) * 65536 + h.base.0 % 65536) 1
 
 unfoldable pub cell_of : ℕ → Cell
-cell_of v = if eqb v 0 then Free else Bound (record { place = record { 0 = (v - 1) / 65536 }; base = record { 0 = (v - 1) % 65536 } })
+cell_of v = when eqb v 0 then Free else Bound (record { place = record { 0 = (v - 1) / 65536 }; base = record { 0 = (v - 1) % 65536 } })
 
 unfoldable pub cell_at : List ℕ → Layout → ℕ → Cell
 cell_at w lay x = cell_of (get_or w (lay.cells + x) 0)
 
 unfoldable pub node_of : List ℕ → Held → Node
 node_of file h =
-    if eqb (byte file h.place.0) a_variable then Variable (record { 0 = plus h.base.0 (byte file (h.place.0 + 1)) }) else
+    when eqb (byte file h.place.0) a_variable then Variable (record { 0 = plus h.base.0 (byte file (h.place.0 + 1)) }) else
     Applied (two_bytes file (h.place.0 + 1))
 
 unfoldable pub hop_cell : Held → CellNumber → Cell → Hop
@@ -58,7 +58,7 @@ unfoldable pub undone : ℕ → ℕ → Layout → List ℕ → List ℕ
 undone zero mark lay w = w
 undone (suc t) mark lay w =
     let rest : List ℕ = undone t mark lay (set w (lay.cells + get_or w (lay.trail + t) 0) 0) in
-    if leb mark t then rest else w
+    when leb mark t then rest else w
 
 -- the words after so many cells are made free, the last first
 unfoldable pub freed : ℕ → ℕ → Layout → List ℕ → List ℕ
@@ -79,7 +79,7 @@ pub data Meet (file : List ℕ) (lay : Layout) (stamp x base p count : ℕ) (w :
 
 -- how many bytes the record takes
 unfoldable pub width_of : List ℕ → ℕ → ℕ
-width_of file p = if eqb (byte file p) a_variable then 2 else 3
+width_of file p = when eqb (byte file p) a_variable then 2 else 3
 
 pub record Small (n : ℕ) : Type 0 where
   pub some : 0 < n

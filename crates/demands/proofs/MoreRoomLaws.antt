@@ -10,7 +10,7 @@ use mathlib.Core.List.{List, [], ◌∷◌, ◌++◌, append-nil, append_assoc}
 use native.Mathlib.Omega.{arith}
 use Rattle.std.proofs.Math.ListN.{length, length-append}
 use borrow.Author.Tests.{ltb-false, le-ltb, eqb-false, ne_eqb}
-use Rattle.meaning.specs.If.{if◌then◌else◌}
+use Rattle.meaning.specs.If.{when◌then◌else◌}
 use Rattle.meaning.specs.Kinds.{file_limit}
 use Rattle.meaning.specs.Editions.{Edition}
 use Rattle.meaning.specs.Terms.{Term, var, app}
@@ -114,16 +114,16 @@ module _ (R : Rules) (a b : Given) (r : Raised a b) where
 
   -- a test of a limit, and of the raised one
   limit_beside : (d : Done) (e : ℕ) (x y : Bool) {s t : State} → e ≢ 20 → (x ≡ false → y ≡ false) → Beside d s t
-      → Beside d (if x then ended e d else s) (if y then ended e d else t)
-  unfolding if◌then◌else◌
+      → Beside d (when x then ended e d else s) (when y then ended e d else t)
+  unfolding when◌then◌else◌
   limit_beside d e true true n f k = same {s = ended e d} (kept_itself d)
   limit_beside d e true false n f k = stopped n (kept_itself d) (beside_since k)
   limit_beside d e false true n f k = let z : ◌≡◌ {A = ℕ} 0 1 = cc (f refl) in absurd (omega arith)
   limit_beside d e false false n f k = k
 
   -- a test that has no part in what is given
-  test_beside : (d : Done) (x : Bool) {s t u v : State} → Beside d s t → Beside d u v → Beside d (if x then s else u) (if x then t else v)
-  unfolding if◌then◌else◌
+  test_beside : (d : Done) (x : Bool) {s t u v : State} → Beside d s t → Beside d u v → Beside d (when x then s else u) (when x then t else v)
+  unfolding when◌then◌else◌
   test_beside d true j k = j
   test_beside d false j k = k
 

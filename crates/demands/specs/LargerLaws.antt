@@ -11,7 +11,7 @@ use Rattle.std.proofs.Math.Dec.{leb, ltb}
 use Rattle.std.proofs.Math.ListN.{length, get_or, length-append, get_or-append}
 use Rattle.std.proofs.Math.Seq.{get_or-take, get_or-append-add}
 use borrow.Author.Tests.{ltb-true, ltb-false, leb-true, leb-false, eqb-true, not-false, le-leb, lt-ltb, eq-eqb}
-use Rattle.meaning.specs.If.{if◌then◌else◌}
+use Rattle.meaning.specs.If.{when◌then◌else◌}
 use Rattle.meaning.specs.Kinds.{body_lengths, body_length, a_function, a_predicate, a_clause, a_query, the_end, arity_limit, function_limit, predicate_limit, goal_limit, RuleLimits, earlier_limits, todays_limits}
 use Rattle.meaning.specs.Editions.{Edition, within}
 use Rattle.meaning.specs.Rules.{Clause, Rules}
@@ -43,7 +43,7 @@ never q = let z : ◌≡◌ {A = ℕ} 0 1 = cc in omega arith
 nothing_asked : (file : List ℕ) (most : RuleLimits) (more latest : ℕ) (functions predicates : List ℕ) (clauses : List Clause) (s p q : ℕ) → next file (item_due latest) s p ≡ read p s q
     → byte file p ≡ a_query → byte file (p + 1) ≡ 0 → byte file (p + 2) ≡ 0 → next file end_due 0 q ≡ read q 0 (length file)
     → items file most (suc more) latest functions predicates clauses s p ≡ read (record { functions = functions; predicates = predicates; clauses = clauses; variables = 0; query = [] }) 0 (length file)
-unfolding items query goals all_seen none_seen need no_more give ◌>>◌ ◌>>=◌ after if◌then◌else◌
+unfolding items query goals all_seen none_seen need no_more give ◌>>◌ ◌>>=◌ after when◌then◌else◌
 nothing_asked file most more latest functions predicates clauses s p q n k v g e =
     rw (n, k, v, g, le-leb 0 most.variables (omega arith), e, eq-eqb (length file) (length file) refl) refl
 
@@ -88,15 +88,15 @@ module _ (file : List ℕ) (most : RuleLimits) (more latest : ℕ) (functions pr
   all = items file most (suc more) latest functions predicates clauses s at
 
   function_item : byte file at ≡ a_function → (ltb (length functions) function_limit && leb (byte file (at + 1)) arity_limit) ≡ true → all ≡ items file most more a_function (functions ++ byte file (at + 1) ∷ []) predicates clauses s e
-  unfolding items need ◌>>◌ ◌>>=◌ after if◌then◌else◌
+  unfolding items need ◌>>◌ ◌>>=◌ after when◌then◌else◌
   function_item k t = rw (found, k, t) refl
 
   predicate_item : byte file at ≡ a_predicate → (ltb (length predicates) predicate_limit && leb (byte file (at + 1)) arity_limit) ≡ true → all ≡ items file most more a_predicate functions (predicates ++ byte file (at + 1) ∷ []) clauses s e
-  unfolding items need ◌>>◌ ◌>>=◌ after if◌then◌else◌
+  unfolding items need ◌>>◌ ◌>>=◌ after when◌then◌else◌
   predicate_item k t = rw (found, k, t) refl
 
   clause_item : (c : Clause) (s₁ e₁ : ℕ) → byte file at ≡ a_clause → ltb (length clauses) most.clauses ≡ true → clause file most functions predicates at s e ≡ read c s₁ e₁ → all ≡ items file most more a_clause functions predicates (clauses ++ c ∷ []) s₁ e₁
-  unfolding items need ◌>>◌ ◌>>=◌ after if◌then◌else◌
+  unfolding items need ◌>>◌ ◌>>=◌ after when◌then◌else◌
   clause_item c s₁ e₁ k t r = rw (found, k, t, r) refl
 
 -- ---- by larger limits

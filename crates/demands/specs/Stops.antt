@@ -10,7 +10,7 @@ use Rattle.std.proofs.Math.Option.{Option, none, some}
 use native.Mathlib.Omega.{arith}
 use borrow.Author.Tests.{ltb-true, ltb-false, eqb-true, not-false}
 use Rattle.std.proofs.Math.ListN.{length}
-use Rattle.meaning.specs.If.{if◌then◌else◌}
+use Rattle.meaning.specs.If.{when◌then◌else◌}
 use Rattle.meaning.specs.Terms.{Term, var, app, Terms, inst, occurs}
 use Rattle.meaning.specs.Editions.{todays}
 use Rattle.meaning.specs.Rules.{Call, Rules}
@@ -33,13 +33,13 @@ abbrev pub Made : Type 0
 Made = Option (List Pair × Derivation)
 
 unfoldable pub bound : ℕ → Term → List Pair → Derivation → Made
-bound x t ps n = if occurs x (inst (value n.store) t) then none else some (ps, with_binding x t n)
+bound x t ps n = when occurs x (inst (value n.store) t) then none else some (ps, with_binding x t n)
 
 unfoldable pub matched : Term → Term → List Pair → Derivation → Made
-matched (var x) (var y) ps n = if eqb x y then some (ps, n) else bound y (var x) ps n
+matched (var x) (var y) ps n = when eqb x y then some (ps, n) else bound y (var x) ps n
 matched (app f ts) (var y) ps n = bound y (app f ts) ps n
 matched (var x) (app g us) ps n = bound x (app g us) ps n
-matched (app f ts) (app g us) ps n = if not (eqb f g) then none else some (pairs ts us ++ ps, n)
+matched (app f ts) (app g us) ps n = when not (eqb f g) then none else some (pairs ts us ++ ps, n)
 
 unfoldable pub made : Move → Made
 made (trying k (choice ks g n) cs) = some (pairs g.arguments (over n.cells k.clause.head).arguments, with_step k (length cs) n)
@@ -58,13 +58,13 @@ FitSays room W size ps fits = Unit {0}
 FitSays room W size ps (stops e) = Unfit room W size ps e
 
 fitting_says : (room W size : ℕ) (ps : List Piece) → FitSays room W size ps (fitting room W size ps)
-unfolding fitting if◌then◌else◌
+unfolding fitting when◌then◌else◌
 fitting_says room W size [] = tt
 fitting_says room W size (piece b nodes ∷ ps) =
     go (ltb room (size + length b)) (ltb W nodes) refl refl (fitting room W (size + length b) ps) (fitting_says room W (size + length b) ps)
   where
     go : (x y : Bool) → ltb room (size + length b) ≡ x → ltb W nodes ≡ y → (f : Fit) → FitSays room W (size + length b) ps f
-        → FitSays room W size (piece b nodes ∷ ps) (if x then stops 26 else if y then stops 25 else f)
+        → FitSays room W size (piece b nodes ∷ ps) (when x then stops 26 else when y then stops 25 else f)
     go true y p q f u = full (ltb-true _ _ p)
     go false true p q f u = crowded (ltb-false _ _ p) (ltb-true _ _ q)
     go false false p q fits u = tt
@@ -140,8 +140,8 @@ module _ (R : Rules) (L : Limits) (wanted room : ℕ) where
     to_limit : {e : ℕ} → E e → Comes E d (ended e d)
 
   module _ {E : ℕ → Type 0} {d : Done} where
-    if_comes : (b : Bool) {x y : State} → (b ≡ true → Comes E d x) → (b ≡ false → Comes E d y) → Comes E d (if b then x else y)
-    unfolding if◌then◌else◌
+    if_comes : (b : Bool) {x y : State} → (b ≡ true → Comes E d x) → (b ≡ false → Comes E d y) → Comes E d (when b then x else y)
+    unfolding when◌then◌else◌
     if_comes true f g = f refl
     if_comes false f g = g refl
 
@@ -180,9 +180,9 @@ module _ (R : Rules) (L : Limits) (wanted room : ℕ) where
 
     -- where a move makes r
     module _ (cs : List Choice) (r : Made) (o : (n : Derivation) (e : ℕ) → r ≡ some ([], n) → Overflows n d e → E e) where
-      both_come : (b : Bool) {x y : State} {v w : Made} → r ≡ (if b then v else w)
-          → (b ≡ true → r ≡ v → Comes E d x) → (b ≡ false → r ≡ w → Comes E d y) → Comes E d (if b then x else y)
-      unfolding if◌then◌else◌
+      both_come : (b : Bool) {x y : State} {v w : Made} → r ≡ (when b then v else w)
+          → (b ≡ true → r ≡ v → Comes E d x) → (b ≡ false → r ≡ w → Comes E d y) → Comes E d (when b then x else y)
+      unfolding when◌then◌else◌
       both_come true q f g = f refl q
       both_come false q f g = g refl q
 

@@ -4,7 +4,7 @@ use Prim.Native.Nat.{ℕ, suc, zero, ◌+◌, ◌-◌, ◌≤◌, ◌<◌}
 use Rattle.std.specs.Prelude.{◌≡◌, refl, ◌↔◌, List, [], ◌∷◌, ◌++◌, ltb, eqb}
 use Rattle.std.proofs.Common.{ap, ap₂, sym, ◌∙◌, inl, inr, lt-ltb, le-ltb, arith}
 use Rattle.std.proofs.Math.Option.{some}
-use Rattle.meaning.specs.If.{if◌then◌else◌}
+use Rattle.meaning.specs.If.{when◌then◌else◌}
 use Rattle.meaning.specs.Terms.{Term, var, app, Terms, []ₜ, ◌∷ₜ◌, count, inst, insts, from, values_from}
 use Rattle.meaning.specs.Store.{Store, empty, bind, only, value, onward, follow}
 use Rattle.meaning.specs.Moves.{Pair, pairs}
@@ -160,7 +160,7 @@ module _ (fs : List ℕ) where
 
 -- ---- values below n by ν, and from there on by θ
 unfoldable pub joined : ℕ → (ℕ → Term) → (ℕ → Term) → ℕ → Term
-joined n ν θ x = if ltb x n then ν x else θ (x - n)
+joined n ν θ x = when ltb x n then ν x else θ (x - n)
 
 pub joined_below : (n : ℕ) (ν θ : ℕ → Term) (x : ℕ) → x < n → joined n ν θ x ≡ ν x
 unfolding joined

@@ -14,7 +14,7 @@ use Rattle.std.proofs.Math.ListN.{length, get_elem?, length-append}
 use Rattle.std.proofs.lemmas.List.{take-append-le}
 use Rattle.std.proofs.Math.Seq.{take-append_seam}
 use borrow.Author.Tests.{ltb-true, ltb-false, leb-true, leb-false, eqb-true, not-false}
-use Rattle.meaning.specs.If.{if◌then◌else◌}
+use Rattle.meaning.specs.If.{when◌then◌else◌}
 use Rattle.meaning.specs.Terms.{Term, var, app, Terms, []ₜ, ◌∷ₜ◌, count}
 use Rattle.meaning.specs.Kinds.{body_lengths, body_length, a_function, a_predicate, a_clause, a_variable, an_application, a_goal, a_cut, a_query, the_end, variable_limit, level_limit, todays_limits}
 use Rattle.meaning.specs.Rules.{Goal, call, cut, Clause, Rules}
@@ -176,7 +176,7 @@ module _ (file : List ℕ) where
     term_read (suc levels) seen at =
         after_gives (next_gives term_due seen at) λ p seen₁ at₁ r.
         let Q : ℕ → Reader Term → Type 0 = λ q f. Gives (TermRead functions declared (suc levels) q) (f seen₁ at₁) in
-        subst (λ (q : ℕ). Q q (if eqb (byte file p) a_variable then variable file declared p else applied file functions (term file functions declared levels) p)) r.place
+        subst (λ (q : ℕ). Q q (when eqb (byte file p) a_variable then variable file declared p else applied file functions (term file functions declared levels) p)) r.place
         (if_by (Q p) _
         (λ v. let k : byte file p ≡ a_variable = eqb-true _ _ v in
         variable_read levels p seen₁ at₁ k (record_ends a_variable r k ∙ omega arith) r.within)
@@ -268,7 +268,7 @@ module _ (file : List ℕ) where
     goal_read declared seen at =
         after_gives (next_gives goal_due seen at) λ p seen₁ at₁ r.
         let Q : ℕ → Reader Goal → Type 0 = λ q f. Gives (GoalRead declared q) (f seen₁ at₁) in
-        subst (λ (q : ℕ). Q q (if eqb (byte file p) a_cut then give cut else called file functions predicates declared p)) r.place
+        subst (λ (q : ℕ). Q q (when eqb (byte file p) a_cut then give cut else called file functions predicates declared p)) r.place
         (if_by (Q p) _
         (λ v. let k : byte file p ≡ a_cut = eqb-true _ _ v in
         this (cut_read declared p at₁ k (record_ends a_cut r k ∙ omega arith) r.within))

@@ -11,7 +11,7 @@ use lib.Seq.{length-take-le, drop-length}
 use borrow.Author.Tests.{lt-ltb, le-ltb, le-leb, lt-leb}
 use borrow.Author.Fill.{fill_none, fill_more}
 use Rattle.laws.specs.IfLaws.{if_true, if_false}
-use Rattle.meaning.specs.If.{if◌then◌else◌}
+use Rattle.meaning.specs.If.{when◌then◌else◌}
 use Rattle.meaning.specs.Kinds.{file_limit}
 use Rattle.meaning.specs.Editions.{todays}
 use Rattle.meaning.specs.Rules.{Rules}
@@ -233,7 +233,7 @@ module _ (file : List ℕ) (l : Limits) (budget wanted : ℕ) (w o : List ℕ) w
     call_limits f = refuses 1 _ (if_true (not (in_range (limits_of l))) (refusal 1 0) _ (sym (ap not e) ∙ f))
 
     module _ (f : not b ≡ false) where
-      no_limits : {r : Result} (s : Result) → s ≡ r → (if not (in_range (limits_of l)) then refusal 1 0 else s) ≡ r
+      no_limits : {r : Result} (s : Result) → s ≡ r → (when not (in_range (limits_of l)) then refusal 1 0 else s) ≡ r
       no_limits s g = if_false (not (in_range (limits_of l))) (refusal 1 0) s (sym (ap not e) ∙ f) ∙ g
 
       pub call_long : 60_000 < length file → Called file l budget wanted w o (Refused 2 (record { 0 = 0 })) w o
@@ -241,7 +241,7 @@ module _ (file : List ℕ) (l : Limits) (budget wanted : ℕ) (w o : List ℕ) w
       call_long h = let z = limit_is in refuses 2 _ (no_limits _ (if_true (ltb file_limit (length file)) (refusal 2 0) _ (lt-ltb file_limit (length file) (omega arith))))
 
       module _ (h : length file ≤ 60_000) (n : ℕ) (k : n ≡ needed (length file) (limits_of l)) where
-        not_long : {r : Result} (s : Result) → s ≡ r → (if ltb file_limit (length file) then refusal 2 0 else s) ≡ r
+        not_long : {r : Result} (s : Result) → s ≡ r → (when ltb file_limit (length file) then refusal 2 0 else s) ≡ r
         not_long s g = let z = limit_is in if_false (ltb file_limit (length file)) (refusal 2 0) s (le-ltb file_limit (length file) (omega arith)) ∙ g
 
         pub call_scratch : length w < n → Called file l budget wanted w o (Refused 3 (record { 0 = 0 })) w o

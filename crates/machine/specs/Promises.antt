@@ -7,7 +7,7 @@ use Rattle.std.specs.Prelude.{ℕ, ◌≤◌, ◌≡◌, List, [], ◌∷◌, �
 use Rattle.std.proofs.Math.Path.{refl, sym, ap, subst}
 use Rattle.std.proofs.Common.{ap₂, ◌∙◌}
 use Rattle.std.proofs.Math.Seq.{take-append_seam}
-use Rattle.meaning.specs.If.{if◌then◌else◌}
+use Rattle.meaning.specs.If.{when◌then◌else◌}
 use Rattle.meaning.specs.Kinds.{earlier_limits}
 use Rattle.meaning.specs.Editions.{Edition, document_01, todays, within, keeping}
 use Rattle.meaning.specs.Rules.{Goal, cut, Rules}
@@ -35,16 +35,16 @@ use Rattle.machine.specs.Calling.{limits_of, result_of, Called}
 -- the end with a number
 end_of : ℕ → End
 end_of n =
-    if eqb n 20 then NoMore else
-    if eqb n 21 then Wanted else
-    if eqb n 22 then Budget else
-    if eqb n 23 then Cells else
-    if eqb n 24 then Steps else
-    if eqb n 25 then Work else
+    when eqb n 20 then NoMore else
+    when eqb n 21 then Wanted else
+    when eqb n 22 then Budget else
+    when eqb n 23 then Cells else
+    when eqb n 24 then Steps else
+    when eqb n 25 then Work else
     Output
 
 end_back : (e : End) → end_of (end_number e) ≡ e
-unfolding end_of end_number if◌then◌else◌
+unfolding end_of end_number when◌then◌else◌
 end_back NoMore = refl
 end_back Wanted = refl
 end_back Budget = refl

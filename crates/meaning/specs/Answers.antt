@@ -1,7 +1,7 @@
 -- Writing an answer: its records in written order, each with its bytes, and where the writing stops.
 -- Assumes nothing.
 use Rattle.std.specs.Prelude.{ℕ, suc, ◌+◌, ◌/◌, ◌%◌, Bool, false, ◌||◌, List, [], ◌∷◌, ◌++◌, map, ltb, eqb, length}
-use Rattle.meaning.specs.If.{if◌then◌else◌}
+use Rattle.meaning.specs.If.{when◌then◌else◌}
 use Rattle.meaning.specs.Terms.{Term, var, app, Terms, []ₜ, ◌∷ₜ◌, count, insts}
 use Rattle.meaning.specs.Kinds.{an_application, an_answer, an_answer_variable, a_step, the_answer_end}
 
@@ -17,7 +17,7 @@ has x (y ∷ ys) = eqb x y || has x ys
 
 unfoldable mutual
   pub appear : List ℕ → Term → List ℕ
-  appear seen (var x) = if has x seen then seen else seen ++ x ∷ []
+  appear seen (var x) = when has x seen then seen else seen ++ x ∷ []
   appear seen (app f ts) = appears seen ts
 
   pub appears : List ℕ → Terms → List ℕ
@@ -27,7 +27,7 @@ unfoldable mutual
 -- the number of a variable: its index among those that appear
 unfoldable pub index : List ℕ → ℕ → ℕ
 index [] x = 0
-index (y ∷ ys) x = if eqb x y then 0 else suc (index ys x)
+index (y ∷ ys) x = when eqb x y then 0 else suc (index ys x)
 
 -- the values with their free variables numbered
 unfoldable pub renumbered : Terms → Terms
@@ -86,6 +86,6 @@ unfoldable pub fitting : ℕ → ℕ → ℕ → List Piece → Fit
 fitting room W size [] = fits
 fitting room W size (piece b due ∷ ps) =
     let rest : Fit = fitting room W (size + length b) ps in
-    if ltb room (size + length b) then stops 26 else
-    if ltb W due then stops 25 else
+    when ltb room (size + length b) then stops 26 else
+    when ltb W due then stops 25 else
     rest

@@ -1,7 +1,7 @@
 -- The whole call: its result, and what it leaves in the output and in scratch, for every input.
 -- Assumes nothing.
 use Rattle.std.specs.Prelude.{ℕ, ◌+◌, ◌*◌, Bool, ◌&&◌, not, List, ◌++◌, leb, ltb, length, drop, replicate}
-use Rattle.meaning.specs.If.{if◌then◌else◌}
+use Rattle.meaning.specs.If.{when◌then◌else◌}
 use Rattle.meaning.specs.Kinds.{file_limit}
 use Rattle.meaning.specs.Editions.{Edition, todays}
 use Rattle.meaning.specs.Rules.{Rules}
@@ -35,9 +35,9 @@ run_read E (read R seen at) L budget wanted room = ending (run R L wanted room b
 unfoldable pub result_by : Edition → List ℕ → Limits → ℕ → ℕ → ℕ → ℕ → Result
 result_by E file L budget wanted scratch room =
     let good : Result = run_read E (parse_within file E.limits) L budget wanted room in
-    if not (in_range L) then refusal 1 0 else
-    if ltb file_limit (length file) then refusal 2 0 else
-    if ltb scratch (needed (length file) L) then refusal 3 0 else
+    when not (in_range L) then refusal 1 0 else
+    when ltb file_limit (length file) then refusal 2 0 else
+    when ltb scratch (needed (length file) L) then refusal 3 0 else
     good
 
 -- by today's rules

@@ -1,7 +1,7 @@
 -- The embedded form with its packed number, and the line of the small program.
 -- Assumes nothing.
 use Rattle.std.specs.Prelude.{ℕ, zero, suc, ◌+◌, ◌*◌, ◌/◌, ◌%◌, ◌^◌, min, ◌&&◌, List, [], ◌∷◌, ◌++◌, leb, ltb, length}
-use Rattle.meaning.specs.If.{if◌then◌else◌}
+use Rattle.meaning.specs.If.{when◌then◌else◌}
 use Rattle.meaning.specs.Editions.{Edition, todays}
 use Rattle.meaning.specs.Moves.{Limits}
 use Rattle.meaning.specs.Call.{Result, refusal, end, result_by}
@@ -18,7 +18,7 @@ embedded_scratch = 16_064
 unfoldable pub embedded_in : Edition → List ℕ → ℕ → ℕ → ℕ → Result
 embedded_in E file budget wanted room =
     let good : Result = result_by E file embedded_limits budget wanted embedded_scratch room in
-    if ltb 4_000 (length file) then refusal 2 0 else
+    when ltb 4_000 (length file) then refusal 2 0 else
     good
 
 -- "Of the output at most 4,000,000,000 bytes count as room"
@@ -42,7 +42,7 @@ unfoldable pub decimal : ℕ → ℕ → List ℕ
 decimal zero n = []
 decimal (suc digits) n =
     let front : List ℕ = decimal digits (n / 10) in
-    if ltb n 10 then (48 + n) ∷ [] else front ++ (48 + n % 10) ∷ []
+    when ltb n 10 then (48 + n) ∷ [] else front ++ (48 + n % 10) ∷ []
 
 -- a space and a number; a 64-bit number has at most 20 digits
 unfoldable pub number : ℕ → List ℕ
@@ -72,7 +72,7 @@ at_word = 32 ∷ 97 ∷ 116 ∷ []
 
 -- "for ends 23 to 25 ` limits too small` follows on it"
 unfoldable pub too_small : ℕ → List ℕ
-too_small e = if leb 23 e && leb e 25 then too_small_words else []
+too_small e = when leb 23 e && leb e 25 then too_small_words else []
 
 -- "one line, closed by byte 0A"
 unfoldable pub line : Result → List ℕ

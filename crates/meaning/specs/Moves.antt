@@ -1,7 +1,7 @@
 -- The moves of a run, each of which costs one unit, and what comes of each: the next move that is due, or an end.
 -- Assumes nothing.
 use Rattle.std.specs.Prelude.{ℕ, zero, suc, ◌+◌, ◌-◌, not, List, [], ◌∷◌, ◌++◌, map, ltb, eqb, length, drop}
-use Rattle.meaning.specs.If.{if◌then◌else◌}
+use Rattle.meaning.specs.If.{when◌then◌else◌}
 use Rattle.meaning.specs.Editions.{todays}
 use Rattle.meaning.specs.Terms.{Term, var, app, Terms, []ₜ, ◌∷ₜ◌, inst, insts, from, occurs, row}
 use Rattle.meaning.specs.Rules.{Call, Goal, call, cut, Clause, Rules}
@@ -70,7 +70,7 @@ unfoldable pub clauses_of : ℕ → ℕ → List Clause → List Numbered
 clauses_of p n [] = []
 clauses_of p n (c ∷ cs) =
     let rest : List Numbered = clauses_of p (suc n) cs in
-    if eqb c.head.predicate p then record { number = n; clause = c } ∷ rest else rest
+    when eqb c.head.predicate p then record { number = n; clause = c } ∷ rest else rest
 
 -- the call with its variables counted from the cell b
 unfoldable pub over : ℕ → Call → Call
@@ -126,7 +126,7 @@ module _ (R : Rules) (L : Limits) (wanted room : ℕ) where
 
   -- "End 21 is tested after each answer. After it is written the machine fails on purpose"
   unfoldable pub answered : List Choice → Done → State
-  answered cs d = if eqb (length d.listed) wanted then ended 21 d else fail cs d
+  answered cs d = when eqb (length d.listed) wanted then ended 21 d else fail cs d
 
   unfoldable pub put_out : Fit → Answer → List Choice → Done → State
   put_out fits a cs d = answered cs (list a d)
@@ -153,19 +153,19 @@ module _ (R : Rules) (L : Limits) (wanted room : ℕ) where
   -- "A variable occurring inside its new value is a mismatch", else the free variable is bound
   unfoldable pub binding : ℕ → Term → List Pair → Derivation → List Choice → Done → State
   binding x t ps n cs d =
-      if occurs x (inst (value n.store) t) then fail cs d else
+      when occurs x (inst (value n.store) t) then fail cs d else
       matching ps (with_binding x t n) cs d
 
   -- Goal side and head side, both followed. "One and the same free variable: done. Else a free head side is bound to the goal side;
   -- else a free goal side to the head side. Else the functions must be equal, and the argument pairs go in front; end 25 if the list
   -- would then exceed W"
   unfoldable pub compared : Term → Term → List Pair → Derivation → List Choice → Done → State
-  compared (var x) (var y) ps n cs d = if eqb x y then matching ps n cs d else binding y (var x) ps n cs d
+  compared (var x) (var y) ps n cs d = when eqb x y then matching ps n cs d else binding y (var x) ps n cs d
   compared (app f ts) (var y) ps n cs d = binding y (app f ts) ps n cs d
   compared (var x) (app g us) ps n cs d = binding x (app g us) ps n cs d
   compared (app f ts) (app g us) ps n cs d =
-      if not (eqb f g) then fail cs d else
-      if ltb L.work (length (pairs ts us ++ ps)) then ended 25 d else
+      when not (eqb f g) then fail cs d else
+      when ltb L.work (length (pairs ts us ++ ps)) then ended 25 d else
       matching (pairs ts us ++ ps) n cs d
 
   unfoldable pub take_pair : Pair → List Pair → Derivation → List Choice → Done → State
@@ -175,8 +175,8 @@ module _ (R : Rules) (L : Limits) (wanted room : ℕ) where
   -- are matched"
   unfoldable pub try_head : Numbered → Choice → List Choice → Done → State
   try_head k (choice ks g n) cs d =
-      if ltb L.cells (n.cells + k.clause.variables) then ended 23 d else
-      if ltb L.steps (length n.steps + 1) then ended 24 d else
+      when ltb L.cells (n.cells + k.clause.variables) then ended 23 d else
+      when ltb L.steps (length n.steps + 1) then ended 24 d else
       matching
       (pairs g.arguments (over n.cells k.clause.head).arguments)
       (with_step k (length cs) n)
@@ -193,8 +193,8 @@ module _ (R : Rules) (L : Limits) (wanted room : ℕ) where
   -- keeps h choices
   unfoldable pub start_keeping : ℕ → State
   start_keeping h =
-      if eqb wanted 0 then ended 21 nothing else
-      if ltb L.cells R.variables then ended 23 nothing else
+      when eqb wanted 0 then ended 21 nothing else
+      when ltb L.cells R.variables then ended 23 nothing else
       go_on (asked R h) [] nothing
 
   -- today, none

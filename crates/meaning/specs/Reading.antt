@@ -2,7 +2,7 @@
 -- a refusal, by number and place, or to what it read and the place after it. Below, `do` lists readers that follow one another.
 -- Assumes nothing.
 use Rattle.std.specs.Prelude.{ℕ, zero, suc, ◌+◌, ◌*◌, Bool, true, false, ◌&&◌, ◌||◌, not, List, [], ◌∷◌, ◌++◌, leb, ltb, eqb, length, get_or}
-use Rattle.meaning.specs.If.{if◌then◌else◌}
+use Rattle.meaning.specs.If.{when◌then◌else◌}
 use Rattle.meaning.specs.Terms.{Term, var, app, Terms, []ₜ, ◌∷ₜ◌}
 use Rattle.meaning.specs.Kinds.{body_length, a_function, a_predicate, a_clause, a_variable, an_application, a_goal, a_cut, a_query, the_end}
 use Rattle.meaning.specs.Kinds.{function_limit, predicate_limit, arity_limit, goal_limit, level_limit, RuleLimits, todays_limits}
@@ -88,18 +88,18 @@ module _ (file : List ℕ) where
   unfoldable pub next : (ℕ → Bool) → Reader ℕ
   next due seen at =
       let end : ℕ = at + 1 + body_length (byte at) in
-      if leb (length file) at then refused 4 at else
-      if not (due (byte at)) then refused 5 at else
-      if ltb (length file) end then refused 4 at else
+      when leb (length file) at then refused 4 at else
+      when not (due (byte at)) then refused 5 at else
+      when ltb (length file) end then refused 4 at else
       read at seen end
 
   -- The variable whose record stands at the place p: declared, and no further than the next to appear (7)
   unfoldable pub variable : ℕ → ℕ → Reader Term
   variable declared p seen at =
       let x : ℕ = byte (p + 1) in
-      if leb declared x then refused 7 p else
-      if ltb seen x then refused 7 p else
-      if eqb x seen then read (var x) (seen + 1) at else
+      when leb declared x then refused 7 p else
+      when ltb seen x then refused 7 p else
+      when eqb x seen then read (var x) (seen + 1) at else
       read (var x) seen at
 
   -- The applied function whose record stands at p: its number (6), then its arguments
@@ -117,7 +117,7 @@ module _ (file : List ℕ) where
     refuse 8 p
   term functions declared (suc levels) = do
     p ← next term_due
-    if eqb (byte p) a_variable then variable declared p else applied functions (term functions declared levels) p
+    when eqb (byte p) a_variable then variable declared p else applied functions (term functions declared levels) p
 
   -- The arguments of a head or goal: "an argument itself being level 1"
   unfoldable pub arguments : List ℕ → ℕ → ℕ → Reader Terms
@@ -134,7 +134,7 @@ module _ (file : List ℕ) where
   unfoldable pub goal : List ℕ → List ℕ → ℕ → Reader Goal
   goal functions predicates declared = do
     p ← next goal_due
-    if eqb (byte p) a_cut then give cut else called functions predicates declared p
+    when eqb (byte p) a_cut then give cut else called functions predicates declared p
 
   -- 9: "bytes after the end record", the first of them
   unfoldable pub no_more : Reader (Unit {0})
@@ -173,13 +173,13 @@ module _ (file : List ℕ) where
     items (suc more) latest functions predicates clauses = do
       p ← next (item_due latest)
       let arity : ℕ = byte (p + 1)
-      if eqb (byte p) a_function then (do
+      when eqb (byte p) a_function then (do
         need (ltb (length functions) function_limit && leb arity arity_limit) 6 p
         items more a_function (functions ++ arity ∷ []) predicates clauses) else
-          if eqb (byte p) a_predicate then (do
+          when eqb (byte p) a_predicate then (do
             need (ltb (length predicates) predicate_limit && leb arity arity_limit) 6 p
             items more a_predicate functions (predicates ++ arity ∷ []) clauses) else
-          if eqb (byte p) a_clause then (do
+          when eqb (byte p) a_clause then (do
             need (ltb (length clauses) most.clauses) 6 p
             c ← clause functions predicates p
             items more a_clause functions predicates (clauses ++ c ∷ [])) else do

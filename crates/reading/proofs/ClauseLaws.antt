@@ -8,7 +8,7 @@ use native.Mathlib.Omega.{arith}
 use lib.Dec.{leb, ltb}
 use lib.ListN.{length, get_or}
 use borrow.Author.Tests.{lt-ltb, le-ltb, le-leb, lt-leb, eq-eqb, ne_eqb, eqb-true, not-true, not-false}
-use Rattle.meaning.specs.If.{if◌then◌else◌}
+use Rattle.meaning.specs.If.{when◌then◌else◌}
 use Rattle.meaning.specs.Terms.{Terms}
 use Rattle.meaning.specs.Kinds.{a_clause, a_goal, a_cut, a_query, the_end, level_limit, variable_limit, goal_limit, clause_limit, body_length, body_lengths, todays_limits}
 use Rattle.meaning.specs.Rules.{Goal, call, Clause, Rules}
@@ -71,17 +71,17 @@ module _ (file : List ℕ) (functions predicates declared seen at : ℕ) (x : St
         or_first false b e n = cc
 
     pub goal_cut : get_or file at 0 ≡ a_cut → Next seen e ≡ the_goal
-    unfolding goal ◌>>=◌ after byte if◌then◌else◌ give step
+    unfolding goal ◌>>=◌ after byte when◌then◌else◌ give step
     goal_cut k = rw (found.gives seen, eq-eqb (get_or file at 0) a_cut k)
 
     module _ (k : get_or file at 0 ≡ a_cut → ⊥) (a : Arity) (w : a ≡ arity file (predicates_of file functions predicates) at) where
       pub goal_unknown : a ≡ Unknown → Refused 6 (place at) ≡ the_goal
-      unfolding goal ◌>>=◌ after byte if◌then◌else◌
+      unfolding goal ◌>>=◌ after byte when◌then◌else◌
       goal_unknown u =
           rw (found.gives seen, ne_eqb (get_or file at 0) a_cut k) (sym (called_unknown file _ _ declared at seen e (arity_none file _ at a w u)))
 
       pub goal_called : (n : ℕ) (y : Step) → a ≡ Of n → y ≡ step (terms (term file (functions_of file functions) declared level_limit) n seen e) → y ≡ the_goal
-      unfolding goal ◌>>=◌ after byte if◌then◌else◌
+      unfolding goal ◌>>=◌ after byte when◌then◌else◌
       goal_called n y u q =
           rw (found.gives seen, ne_eqb (get_or file at 0) a_cut k) (q ∙ sym (called_known file _ _ declared at seen e n (arity_of file _ at a w u)))
 

@@ -8,7 +8,7 @@ use native.Mathlib.Omega.{arith}
 use lib.Dec.{leb, ltb}
 use lib.ListN.{length}
 use borrow.Author.Tests.{le-leb, eq-eqb, leb-true, eqb-true}
-use Rattle.meaning.specs.If.{if◌then◌else◌}
+use Rattle.meaning.specs.If.{when◌then◌else◌}
 use Rattle.meaning.specs.Kinds.{a_function, a_predicate, a_clause, a_query, function_limit, predicate_limit, clause_limit, todays_limits}
 use Rattle.meaning.specs.Rules.{Clause, Rules}
 use Rattle.meaning.specs.Reading.{Read, refused, read, Reader, after, ◌>>=◌, ◌>>◌, need, none_seen, item_due}
@@ -103,25 +103,25 @@ module _ (file : List ℕ) (more latest : ℕ) (functions predicates : List ℕ)
 
   pub item_function : byte file at ≡ a_function → latest ≤ a_function
       → all ≡ after (declared file a_function function_limit (length functions) 0 at) (λ u. items file todays_limits more a_function (functions ++ byte file (at + 1) ∷ []) predicates clauses)
-  unfolding declared items ◌>>◌ ◌>>=◌ after if◌then◌else◌
+  unfolding declared items ◌>>◌ ◌>>=◌ after when◌then◌else◌
   item_function k l =
       item_here a_function (due_from latest (byte file at) a_function l (omega arith) k) _ (λ e b f. rw (f.gives 0, eq-eqb (byte file at) a_function b))
       ∙ after_after (next file (only a_function) 0 at) _ _
 
   pub item_predicate : byte file at ≡ a_predicate → latest ≤ a_predicate
       → all ≡ after (declared file a_predicate predicate_limit (length predicates) 0 at) (λ u. items file todays_limits more a_predicate functions (predicates ++ byte file (at + 1) ∷ []) clauses)
-  unfolding declared items ◌>>◌ ◌>>=◌ after if◌then◌else◌
+  unfolding declared items ◌>>◌ ◌>>=◌ after when◌then◌else◌
   item_predicate k l =
       item_here a_predicate (due_from latest (byte file at) a_predicate l (omega arith) k) _ (λ e b f. rw (f.gives 0, b))
       ∙ after_after (next file (only a_predicate) 0 at) _ _
 
   pub item_clause : byte file at ≡ a_clause → latest ≤ a_clause
       → all ≡ after (clause_after file functions predicates (length clauses) 0 at) (λ c. items file todays_limits more a_clause functions predicates (clauses ++ c ∷ []))
-  unfolding clause_after items ◌>>◌ ◌>>=◌ after if◌then◌else◌
+  unfolding clause_after items ◌>>◌ ◌>>=◌ after when◌then◌else◌
   item_clause k l =
       item_here a_clause (due_from latest (byte file at) a_clause l (omega arith) k) _ (λ e b f. rw (f.gives 0, b) (after_after (need (ltb (length clauses) clause_limit) 6 at 0 e) _ _))
       ∙ after_after (next file (only a_clause) 0 at) _ _
 
   pub item_query : (latest ≤ byte file at → byte file at ≤ a_clause → ⊥) → all ≡ last file functions predicates clauses 0 at
-  unfolding last items ◌>>=◌ after if◌then◌else◌
+  unfolding last items ◌>>=◌ after when◌then◌else◌
   item_query h = item_here a_query (due_query latest (byte file at) h) _ (λ e b f. rw (f.gives 0, b))

@@ -9,7 +9,7 @@ use native.Mathlib.Omega.{arith}
 use lib.Dec.{ltb}
 use lib.ListN.{length, get_or, length-append}
 use borrow.Author.Tests.{lt-ltb, le-ltb, le-leb, lt-leb, eq-eqb, ne_eqb, eqb-true}
-use Rattle.meaning.specs.If.{if◌then◌else◌}
+use Rattle.meaning.specs.If.{when◌then◌else◌}
 use Rattle.meaning.specs.Terms.{Term, Terms, app, ◌∷ₜ◌}
 use Rattle.meaning.specs.Kinds.{a_variable, an_application, body_length, body_lengths}
 use Rattle.meaning.specs.Reading.{Reader, after, ◌>>=◌, ◌>>◌, give, refuse, need, terms, term_due}
@@ -94,21 +94,21 @@ module _ (file : List ℕ) (declared p seen at x : ℕ) (e : x ≡ byte file (p 
   here = byte file (p + 1)
 
   pub variable_undeclared : declared ≤ x → Refused 7 (place p) ≡ step (variable file declared p seen at)
-  unfolding step variable if◌then◌else◌
+  unfolding step variable when◌then◌else◌
   variable_undeclared h = rw (le-leb declared here (omega arith))
 
   module _ (h : x < declared) where
     pub variable_ahead : seen < x → Refused 7 (place p) ≡ step (variable file declared p seen at)
-    unfolding step variable if◌then◌else◌
+    unfolding step variable when◌then◌else◌
     variable_ahead k = rw (lt-leb declared here (omega arith), lt-ltb seen here (omega arith))
 
     module _ (k : x ≤ seen) where
       pub variable_new : x ≡ seen → Next (x + 1) at ≡ step (variable file declared p seen at)
-      unfolding step variable if◌then◌else◌
+      unfolding step variable when◌then◌else◌
       variable_new q = rw (lt-leb declared here (omega arith), le-ltb seen here (omega arith), eq-eqb here seen (sym e ∙ q), q)
 
       pub variable_old : (x ≡ seen → ⊥) → Next seen at ≡ step (variable file declared p seen at)
-      unfolding step variable if◌then◌else◌
+      unfolding step variable when◌then◌else◌
       variable_old q = rw (lt-leb declared here (omega arith), le-ltb seen here (omega arith), ne_eqb here seen (λ z. q (e ∙ z)))
 
 -- ---- one term
@@ -164,18 +164,18 @@ module _ (file : List ℕ) (functions declared seen at : ℕ) (x : Step) (h : x 
       more = omega arith
 
       pub term_variable : (y : Step) → get_or file at 0 ≡ a_variable → y ≡ step (variable file declared at seen e) → y ≡ the_term levels
-      unfolding term ◌>>=◌ after byte if◌then◌else◌
+      unfolding term ◌>>=◌ after byte when◌then◌else◌
       term_variable y k q = rw (more, found.gives seen, eq-eqb (get_or file at 0) a_variable k) q
 
       module _ (k : get_or file at 0 ≡ a_variable → ⊥) (a : Arity) (w : a ≡ arity file (functions_of file functions) at) where
         pub term_unknown : a ≡ Unknown → Refused 6 (place at) ≡ the_term levels
-        unfolding term ◌>>=◌ after byte if◌then◌else◌
+        unfolding term ◌>>=◌ after byte when◌then◌else◌
         term_unknown u =
             rw (more, found.gives seen, ne_eqb (get_or file at 0) a_variable k)
             (sym (applied_unknown file _ _ at seen e (arity_none file _ at a w u)))
 
         pub term_applied : (n : ℕ) (y : Step) → a ≡ Of n → y ≡ step (terms (term file (functions_of file functions) declared (levels - 1)) n seen e) → y ≡ the_term levels
-        unfolding term ◌>>=◌ after byte if◌then◌else◌
+        unfolding term ◌>>=◌ after byte when◌then◌else◌
         term_applied n y u q =
             rw (more, found.gives seen, ne_eqb (get_or file at 0) a_variable k)
             (q ∙ sym (applied_known file _ _ at seen e n (arity_of file _ at a w u)))

@@ -1,7 +1,7 @@
 -- The arities of functions and predicates stand in the file by number: records of two bytes, one after another.
 -- Assumes nothing.
 use Rattle.std.specs.Prelude.{ℕ, zero, suc, ◌+◌, ◌*◌, List, [], ◌∷◌, ◌++◌, ltb, length, get_or}
-use Rattle.meaning.specs.If.{if◌then◌else◌}
+use Rattle.meaning.specs.If.{when◌then◌else◌}
 use Rattle.meaning.specs.Reading.{byte, two_bytes}
 use Rattle.reading.specs.declared.term.Arity.{Arity}
 use Rattle.reading.specs.declared.term.Arity.TheVariants.{Unknown, Of}
@@ -26,4 +26,4 @@ over reader file functions predicates = reader file (functions_of file functions
 unfoldable pub arity : List ℕ → List ℕ → ℕ → Arity
 arity file known p =
     let number : ℕ = two_bytes file (p + 1) in
-    if ltb number (length known) then Of (get_or known number 0) else Unknown
+    when ltb number (length known) then Of (get_or known number 0) else Unknown

@@ -1,7 +1,7 @@
 -- What the functions of the search do, word for word.
 -- Assumes nothing.
 use Rattle.std.specs.Prelude.{ℕ, zero, suc, ◌+◌, ◌-◌, ◌*◌, ◌%◌, ◌<◌, ◌≤◌, ◌≡◌, ◌||◌, List, eqb, ltb, get_or}
-use Rattle.meaning.specs.If.{if◌then◌else◌}
+use Rattle.meaning.specs.If.{when◌then◌else◌}
 use Rattle.meaning.specs.Reading.{byte, two_bytes, goal_due}
 use Rattle.meaning.specs.declared.Place.{Place}
 use Rattle.meaning.specs.declared.ClauseNumber.{ClauseNumber}
@@ -32,7 +32,7 @@ step_next w lay step = record { place = record { 0 = step_word w lay step 3 }; s
 -- where no goal is left, the goals go on behind the step's own goal
 unfoldable pub settled_next : List ℕ → List ℕ → Layout → Next → Next
 settled_next file w lay n =
-    if goal_due (byte file n.place.0) || eqb n.step 0 then n else
+    when goal_due (byte file n.place.0) || eqb n.step 0 then n else
     step_next w lay n.step
 
 unfoldable pub clause_place_word : List ℕ → Layout → ClauseNumber → Place
@@ -42,7 +42,7 @@ unfoldable pub clause_next_word : List ℕ → Layout → ℕ → ℕ
 clause_next_word w lay k = get_or w (lay.clauses + 2 * k + 1) 0
 
 unfoldable pub below_of : ℕ → ℕ → ℕ
-below_of a b = if ltb a b then a else 0
+below_of a b = when ltb a b then a else 0
 
 -- the choice before that of the step c, and the next clause to try
 unfoldable pub rest_word : List ℕ → Layout → ℕ → Rest
@@ -100,8 +100,8 @@ step_put lay t m w =
 
 unfoldable pub room_of : List ℕ → List ℕ → Given → ClauseNumber → Regs → Room
 room_of file w g k m =
-    if ltb g.limits.cells (m.cells + byte file ((clause_place_word w g.lay k).0 + 3)) then RoomCells else
-    if ltb g.limits.steps (m.steps + 1) then RoomSteps else
+    when ltb g.limits.cells (m.cells + byte file ((clause_place_word w g.lay k).0 + 3)) then RoomCells else
+    when ltb g.limits.steps (m.steps + 1) then RoomSteps else
     Fits (clause_place_word w g.lay k) (byte file ((clause_place_word w g.lay k).0 + 3))
 
 unfoldable pub arity_at : List ℕ → ℕ → Place → ℕ

@@ -11,7 +11,7 @@ use native.Mathlib.Omega.{arith}
 use Rattle.std.proofs.lemmas.Bool.{eqb-false}
 use Rattle.std.proofs.Math.ListN.{length, get_elem?, set, drop, length-set}
 use Rattle.std.proofs.Math.Seq.{sets, length-sets, sets-eq}
-use Rattle.meaning.specs.If.{if◌then◌else◌}
+use Rattle.meaning.specs.If.{when◌then◌else◌}
 use Rattle.meaning.specs.Terms.{Term, var, Terms, []ₜ, count, insts, values_from, row}
 use Rattle.meaning.specs.Kinds.{an_answer, the_answer_end}
 use Rattle.meaning.specs.Store.{value}
@@ -205,7 +205,7 @@ module _ (X : Setting) (w : List ℕ) (m : Regs) (n : Derivation) (cs : List Cho
   -- an answer that is measured and fits is written
   writes_are : {t : Tally} {v o u q : List ℕ} → At X n.cells all false w t v all []ₜ → t.size ≡ 5 + length (bytes_of body) → fitting (length o) W 5 (body ++ []) ≡ fits
       → t.size + (3 * m.steps + 1) ≤ length o → length o < 2 ^ 63 → Writes X.file (lay X) W X.rules.variables m.steps m.trail t.free v o u q → (q ≡ sets o 0 (bytes (answer_of X n))) × Aside X w u
-  unfolding first put if◌then◌else◌ two
+  unfolding first put when◌then◌else◌ two
   writes_are {t} {v} {o} {u} a e f l big (records {t = r} {p = p} d) =
       let k = length-sets o 0 first in
       go (written_walk (omega arith) (omega arith) a (subst (λ (z : List ℕ). Values X.file (lay X) W true m.trail X.rules.variables 0 none_yet v z r u p) before d))

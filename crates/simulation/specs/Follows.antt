@@ -5,7 +5,7 @@ use Rattle.std.specs.Prelude.{◌≡◌, refl, ◌≢◌, ◌⊎◌, Bool, true,
 use Rattle.std.proofs.Math.Path.{ap, sym, subst}
 use Rattle.std.proofs.Common.{◌∙◌, inl, inr, arith}
 use borrow.Author.Tests.{eqb-true, eqb-false, eq-eqb, ne_eqb}
-use Rattle.meaning.specs.If.{if◌then◌else◌}
+use Rattle.meaning.specs.If.{when◌then◌else◌}
 use Rattle.meaning.specs.Terms.{Term, var, app, Terms, inst, insts, from}
 use Rattle.meaning.specs.Store.{Store, empty, bind, value, onward, follow}
 use Rattle.meaning.specs.Kinds.{a_variable}
@@ -64,7 +64,7 @@ bound_few (bind x u s) (suc m) f h d = let k : m ≤ bindings s = bound_few s m 
   where
     -- the last one takes the place of x
     g : ℕ → ℕ
-    g i = if eqb (f i) x then f m else f i
+    g i = when eqb (f i) x then f m else f i
 
     other : (i : ℕ) → i < m → Free (g i) s → ⊥
     other i l = if_by (λ z. Free z s → ⊥) (eqb (f i) x)
@@ -84,7 +84,7 @@ bound_few (bind x u s) (suc m) f h d = let k : m ≤ bindings s = bound_few s m 
 -- the cells bound, the oldest first
 nth : Store → ℕ → ℕ
 nth empty i = 0
-nth (bind x u s) i = if eqb i (bindings s) then x else nth s i
+nth (bind x u s) i = when eqb i (bindings s) then x else nth s i
 
 nth_bound : (s : Store) (i : ℕ) → i < bindings s → Free (nth s i) s → ⊥
 unfolding nth bindings
@@ -167,7 +167,7 @@ follow_bound s y v = go s
 -- ---- how many hops it takes
 -- a term that leads to x takes one more hop and those of what x was bound to
 further : ℕ → ℕ → Term → ℕ
-further x m (var y) = if eqb y x then suc m else 0
+further x m (var y) = when eqb y x then suc m else 0
 further x m (app f ts) = 0
 
 hops : Store → Term → ℕ
@@ -220,7 +220,7 @@ hops_cells s w (suc m) t e =
     let r = hops_left s w t m e in
     let g = hops_cells s w m r.1 r.4 in
     let here : hops s (var r.0) ≡ suc m = ap (hops s) (sym r.2) ∙ e in (
-      λ i. if eqb i m then r.0 else g.0 i,
+      λ i. when eqb i m then r.0 else g.0 i,
       λ i l. if_by (λ z. hops s (var z) ≡ suc i) (eqb i m) (λ p. here ∙ ap suc (sym (eqb-true i m p))) (λ p. let q = eqb-false i m p in g.1 i (omega arith)),
     )
 

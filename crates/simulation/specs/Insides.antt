@@ -8,7 +8,7 @@ use mathlib.Core.List.{List}
 use Rattle.std.proofs.Math.ListN.{length}
 use Rattle.std.proofs.lemmas.Bool.{eqb-false}
 use native.Mathlib.Omega.{arith}
-use Rattle.meaning.specs.If.{if◌then◌else◌}
+use Rattle.meaning.specs.If.{when◌then◌else◌}
 use Rattle.meaning.specs.Terms.{Term, var, app, Terms, []ₜ, ◌∷ₜ◌, inst, insts, from, occurs}
 use Rattle.meaning.specs.Store.{Store, empty, bind, only, value}
 use Rattle.meaning.specs.Kinds.{a_variable, an_application}
@@ -258,7 +258,7 @@ module _ (X : Setting) (w : List ℕ) (k n : ℕ) (s : Store) (x stamp : ℕ) (q
     one_more = listing_few (suc m) f (λ j h. if_by (λ z. ¬ Free z s) (eqb j m) (λ p. bound) (λ p. let a = eqb-false j m p in (l.entry j (omega arith)).bound)) d
       where
         f : ℕ → ℕ
-        f j = if eqb j m then y else Listed v j
+        f j = when eqb j m then y else Listed v j
 
         d : (i j : ℕ) → i < suc m → j < suc m → f i ≡ f j → i ≡ j
         d i j a b = if_by (λ z. z ≡ f j → i ≡ j) (eqb i m)

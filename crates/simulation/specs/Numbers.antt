@@ -8,7 +8,7 @@ use mathlib.Core.List.{List, [], ◌∷◌, ◌++◌, map, append_assoc, append-
 use Rattle.std.proofs.Math.Dec.{eqb}
 use Rattle.std.proofs.lemmas.List.{length-map}
 use borrow.Author.Tests.{eqb-true, eqb-false, eq-eqb, ne_eqb}
-use Rattle.meaning.specs.If.{if◌then◌else◌}
+use Rattle.meaning.specs.If.{when◌then◌else◌}
 use Rattle.meaning.specs.Terms.{Term, var, app, Terms, []ₜ, ◌∷ₜ◌, inst, insts}
 use Rattle.meaning.specs.Answers.{has, appear, appears, index, renumbered}
 use Rattle.laws.specs.IfLaws.{if_by, if_true, if_false}
@@ -39,38 +39,38 @@ has_is x (y ∷ ys) (inr h) = or_right (eqb x y) (has_is x ys h)
 
 -- the index of a variable that has appeared is the same in a longer list
 pub index_in : (xs zs : List ℕ) (x : ℕ) → has x xs ≡ true → index (xs ++ zs) x ≡ index xs x
-unfolding has index if◌then◌else◌
+unfolding has index when◌then◌else◌
 index_in [] zs x h = let z : ◌≡◌ {A = ℕ} 0 1 = cc in absurd (omega arith)
 index_in (y ∷ xs) zs x h = go (eqb x y) h (index_in xs zs x)
   where
-    go : (b : Bool) → (b || has x xs) ≡ true → (has x xs ≡ true → index (xs ++ zs) x ≡ index xs x) → (if b then 0 else suc (index (xs ++ zs) x)) ≡ (if b then 0 else suc (index xs x))
+    go : (b : Bool) → (b || has x xs) ≡ true → (has x xs ≡ true → index (xs ++ zs) x ≡ index xs x) → (when b then 0 else suc (index (xs ++ zs) x)) ≡ (when b then 0 else suc (index xs x))
     go true k ih = refl
     go false k ih = ap suc (ih k)
 
 pub index_below : (xs : List ℕ) (x : ℕ) → has x xs ≡ true → index xs x < length xs
-unfolding has index if◌then◌else◌
+unfolding has index when◌then◌else◌
 index_below [] x h = let z : ◌≡◌ {A = ℕ} 0 1 = cc in absurd (omega arith)
 index_below (y ∷ xs) x h = go (eqb x y) h (index_below xs x)
   where
-    go : (b : Bool) → (b || has x xs) ≡ true → (has x xs ≡ true → index xs x < length xs) → (if b then 0 else suc (index xs x)) < suc (length xs)
+    go : (b : Bool) → (b || has x xs) ≡ true → (has x xs ≡ true → index xs x < length xs) → (when b then 0 else suc (index xs x)) < suc (length xs)
     go true k ih = omega arith
     go false k ih = let l = ih k in omega arith
 
 pub index_next : (xs zs : List ℕ) (x : ℕ) → has x xs ≡ false → index (xs ++ x ∷ zs) x ≡ length xs
-unfolding has index if◌then◌else◌
+unfolding has index when◌then◌else◌
 index_next [] zs x h = if_true (eqb x x) 0 _ (eq-eqb x x refl)
 index_next (y ∷ xs) zs x h = go (eqb x y) h (index_next xs zs x)
   where
-    go : (b : Bool) → (b || has x xs) ≡ false → (has x xs ≡ false → index (xs ++ x ∷ zs) x ≡ length xs) → (if b then 0 else suc (index (xs ++ x ∷ zs) x)) ≡ suc (length xs)
+    go : (b : Bool) → (b || has x xs) ≡ false → (has x xs ≡ false → index (xs ++ x ∷ zs) x ≡ length xs) → (when b then 0 else suc (index (xs ++ x ∷ zs) x)) ≡ suc (length xs)
     go true k ih = let z : ◌≡◌ {A = ℕ} 0 1 = cc in absurd (omega arith)
     go false k ih = ap suc (ih k)
 
 -- ---- the word of a variable, where these have appeared: its number and 1, or 0
 unfoldable pub numbered : List ℕ → ℕ → ℕ
-numbered seen x = if has x seen then suc (index seen x) else 0
+numbered seen x = when has x seen then suc (index seen x) else 0
 
 pub numbered_none : (x : ℕ) → numbered [] x ≡ 0
-unfolding numbered has if◌then◌else◌
+unfolding numbered has when◌then◌else◌
 numbered_none x = refl
 
 pub numbered_known : (seen : List ℕ) (x : ℕ) → (numbered seen x ≡ 0 → ⊥) → (has x seen ≡ true) × (numbered seen x ≡ suc (index seen x))
@@ -88,7 +88,7 @@ numbered_last seen x h = if_true _ _ _ (has_here seen [] x) ∙ ap suc (index_ne
 pub numbered_other : (seen : List ℕ) (x y : ℕ) → eqb y x ≡ false → numbered (seen ++ x ∷ []) y ≡ numbered seen y
 unfolding numbered
 numbered_other seen x y h =
-    if_by (λ n. (if has y (seen ++ x ∷ []) then suc (index (seen ++ x ∷ []) y) else 0) ≡ n) (has y seen)
+    if_by (λ n. (when has y (seen ++ x ∷ []) then suc (index (seen ++ x ∷ []) y) else 0) ≡ n) (has y seen)
     (λ p. if_true _ _ _ (has_other seen x y h ∙ p) ∙ ap suc (index_in seen (x ∷ []) y p))
     (λ p. if_false _ _ _ (has_other seen x y h ∙ p))
 
@@ -127,10 +127,10 @@ appears_again ts = appears_known (appears [] ts) ts (λ x i. has_is x (appears [
 -- how many below n are in the list
 total : ℕ → List ℕ → ℕ
 total zero xs = 0
-total (suc n) xs = (if has n xs then 1 else 0) + total n xs
+total (suc n) xs = (when has n xs then 1 else 0) + total n xs
 
 total_none : (n : ℕ) → total n [] ≡ 0
-unfolding total has if◌then◌else◌
+unfolding total has when◌then◌else◌
 total_none zero = refl
 total_none (suc n) = let h = total_none n in omega arith
 
@@ -145,7 +145,7 @@ total_out zero y xs h = refl
 total_out (suc n) y xs h = rw (has_other xs y n (ne_eqb n y (λ e. omega arith)), total_out n y xs (omega arith))
 
 total_in : (n y : ℕ) (xs : List ℕ) → y < n → has y xs ≡ false → total n (xs ++ y ∷ []) ≡ suc (total n xs)
-unfolding total if◌then◌else◌
+unfolding total when◌then◌else◌
 total_in zero y xs h k = absurd (omega arith)
 total_in (suc n) y xs h k = go (eqb n y) refl (λ l. total_in n y xs l k)
   where
@@ -206,14 +206,14 @@ module _ (g d : ℕ → ℕ) where
   Mapped xs ys = Each Back xs × (ys ≡ map g xs)
 
   mutual
-    unfolding appears insts if◌then◌else◌
+    unfolding appears insts when◌then◌else◌
 
     appear_mapped : (seen ys : List ℕ) (t : Term) → ((x : ℕ) → In x t → Back x) → Mapped seen ys → Mapped (appear seen t) (appear ys (inst (λ x. var (g x)) t))
     appear_mapped seen ys (var x) h m =
         let e : has (g x) ys ≡ has x seen = ap (has (g x)) m.1 ∙ has_map x seen (h x refl) m.0 in
-        subst (λ (b : Bool). Mapped (if has x seen then seen else seen ++ x ∷ []) (if b then ys else ys ++ g x ∷ [])) (sym e) (go (has x seen))
+        subst (λ (b : Bool). Mapped (when has x seen then seen else seen ++ x ∷ []) (when b then ys else ys ++ g x ∷ [])) (sym e) (go (has x seen))
       where
-        go : (b : Bool) → Mapped (if b then seen else seen ++ x ∷ []) (if b then ys else ys ++ g x ∷ [])
+        go : (b : Bool) → Mapped (when b then seen else seen ++ x ∷ []) (when b then ys else ys ++ g x ∷ [])
         go true = m
         go false = (each_last seen x m.0 (h x refl), ap (◌++ g x ∷ []) m.1 ∙ sym (map_last seen x))
     appear_mapped seen ys (app f ts) h m = appears_mapped seen ys ts h m

@@ -6,7 +6,7 @@ use Rattle.std.proofs.Common.{sym, ◌∙◌, subst, inl, inr, mod-eq_of_lt, ne_
 use native.Mathlib.Omega.{arith}
 use Rattle.std.proofs.Math.Nat.{mod-lt}
 use Rattle.std.proofs.Math.Dec.{eqb}
-use Rattle.meaning.specs.If.{if◌then◌else◌}
+use Rattle.meaning.specs.If.{when◌then◌else◌}
 use Rattle.meaning.specs.Terms.{Term, var, app, Terms, []ₜ, ◌∷ₜ◌, inst, insts, from}
 use Rattle.laws.specs.IfLaws.{if_false}
 use Rattle.demands.specs.TermLaws.{In, Ins, inst_cong}
@@ -63,7 +63,7 @@ module _ (X : Setting) (n : ℕ) (few : n ≤ 60000) where
       let z : plus ((p % 65536) * 65536 + b % 65536) 1 ≡ p * 65536 + b % 65536 + 1 = plus_small _ 1 (omega arith) ∙ omega arith in
       let s = split p (b % 65536) q in
       let one : p * 65536 + b % 65536 + 1 - 1 ≡ p * 65536 + b % 65536 = omega arith in
-      ap (λ (v : ℕ). if eqb v 0 then Free else Bound (record { place = record { 0 = (v - 1) / 65536 }; base = record { 0 = (v - 1) % 65536 } })) z
+      ap (λ (v : ℕ). when eqb v 0 then Free else Bound (record { place = record { 0 = (v - 1) / 65536 }; base = record { 0 = (v - 1) % 65536 } })) z
       ∙ if_false _ _ _ (ne_eqb (p * 65536 + b % 65536 + 1) 0 (λ e. omega arith))
       ∙ ap₂ (λ (x y : ℕ). Bound (record { place = record { 0 = x }; base = record { 0 = y } })) (ap (λ (v : ℕ). v / 65536) one ∙ s.0) (ap (λ (v : ℕ). v % 65536) one ∙ s.1)
 

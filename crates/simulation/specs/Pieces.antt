@@ -4,7 +4,7 @@ use Rattle.std.specs.Prelude.{ℕ, suc, ◌+◌, ◌*◌, ◌/◌, ◌%◌, ◌^
 use Rattle.std.proofs.Common.{ap, sym, ◌∙◌, append_assoc, arith, length-append, lt-ltb, le-ltb, ltb-true, ltb-false}
 use Rattle.std.proofs.lemmas.List.Edits.{sets}
 use Rattle.std.proofs.Math.Seq.{length-sets}
-use Rattle.meaning.specs.If.{if◌then◌else◌}
+use Rattle.meaning.specs.If.{when◌then◌else◌}
 use Rattle.meaning.specs.Terms.{Term, Terms, []ₜ, ◌∷ₜ◌, count, inst, insts}
 use Rattle.meaning.specs.Kinds.{an_answer, a_step, the_answer_end}
 use Rattle.meaning.specs.Answers.{appear, appears, Piece, piece, two, writes, write_step, bytes_of, fits, stops, fitting}
@@ -56,20 +56,20 @@ sets_join o i (b ∷ bs) cs =
 
 -- bytes written from an index on, or none while an answer is measured
 unfoldable pub put : Bool → ℕ → List ℕ → List ℕ → List ℕ
-put b i bs o = if b then sets o i bs else o
+put b i bs o = when b then sets o i bs else o
 
 pub put_none : (b : Bool) (i : ℕ) (o : List ℕ) → put b i [] o ≡ o
-unfolding put if◌then◌else◌
+unfolding put when◌then◌else◌
 put_none true i o = refl
 put_none false i o = refl
 
 pub put_join : (b : Bool) (i : ℕ) (bs cs o : List ℕ) → put b (i + length bs) cs (put b i bs o) ≡ put b i (bs ++ cs) o
-unfolding put if◌then◌else◌
+unfolding put when◌then◌else◌
 put_join true i bs cs o = sets_join o i bs cs
 put_join false i bs cs o = refl
 
 pub put_length : (b : Bool) (i : ℕ) (bs o : List ℕ) → length (put b i bs o) ≡ length o
-unfolding put if◌then◌else◌
+unfolding put when◌then◌else◌
 put_length true i bs o = length-sets o i bs
 put_length false i bs o = refl
 
@@ -85,7 +85,7 @@ record_sets i kind n o k l h s =
 
 pub recorded_put : (b : Bool) (i kind n : ℕ) (o : List ℕ) → kind < 256 → n < 65536 → i + 3 ≤ length o → length o < 2 ^ 63 → recorded b i kind n o ≡ put b i (kind ∷ two n) o
 unfolding recorded put
-recorded_put b i kind n o k l h s = ap (λ (p : List ℕ). if b then p else o) (record_sets i kind n o k l h s)
+recorded_put b i kind n o k l h s = ap (λ (p : List ℕ). when b then p else o) (record_sets i kind n o k l h s)
 
 pub first_sets : (free steps : ℕ) (o : List ℕ) → free < 65536 → steps < 65536 → 5 ≤ length o → length o < 2 ^ 63 → first_put free steps o ≡ sets o 0 (an_answer ∷ two free ++ two steps)
 unfolding first_put two_put two

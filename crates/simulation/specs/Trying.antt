@@ -6,7 +6,7 @@ use Rattle.std.proofs.Common.{sym, ◌∙◌, subst, arith, ltb-false}
 use mathlib.Core.List.{List, ◌∷◌}
 use Rattle.std.proofs.Math.Option.{some, some-injective}
 use Rattle.std.proofs.Math.ListN.{length, get_elem?, get_or}
-use Rattle.meaning.specs.If.{if◌then◌else◌}
+use Rattle.meaning.specs.If.{when◌then◌else◌}
 use Rattle.meaning.specs.Terms.{count}
 use Rattle.meaning.specs.Rules.{Call}
 use Rattle.meaning.specs.Outcome.{end_number}
@@ -75,7 +75,7 @@ module _ (X : Setting) (wf : WellFormed X.rules) (wanted room : ℕ) where
     place_is = ap (λ (x : ℕ). record { 0 = get_or w (64 + length X.file + length X.rules.predicates + 2 * x) 0 }) try.clause ∙ ap (λ (x : ℕ). record { 0 = x }) try.place
 
     room_is : room_of X.file w (given_of X) t.clause m
-        ≡ (if ltb X.limits.cells (n.cells + k.clause.variables) then RoomCells else if ltb X.limits.steps (length n.steps + 1) then RoomSteps else Fits (record { 0 = clause_place X.rules k.number }) k.clause.variables)
+        ≡ (when ltb X.limits.cells (n.cells + k.clause.variables) then RoomCells else when ltb X.limits.steps (length n.steps + 1) then RoomSteps else Fits (record { 0 = clause_place X.rules k.number }) k.clause.variables)
     unfolding room_of given_of
     room_is = rw (place_is, ((rules_stand X).clauses k.number k.clause known).variables, try.run.cells, try.run.steps.0) refl
 
