@@ -120,7 +120,8 @@ fn one_turn(
             written: t,
         },
         Due::Cut(m) => {
-            if budget <= m.units {
+            let late = budget <= m.units;
+            if late {
                 return Turn {
                     due: Due::Over(End::Budget, m),
                     written: t,

@@ -95,6 +95,7 @@ fn body(
 }
 
 // "0 to 64 variables and 0 to 16 goals in a clause or query."
+#[tactic(auto, using(crate::proofs::ClauseLaws::range_over, crate::proofs::ClauseLaws::range_goals))]
 fn in_range(variables: usize, n: usize) -> bool
     ensures { result ≡ in_range variables n }
 {
@@ -132,7 +133,8 @@ pub fn clause(file: &[u8], functions: usize, predicates: usize, before: usize, a
     match next(file, CLAUSE, CLAUSE, 0, at) {
         Step::Refused(n, p) => Step::Refused(n, p),
         Step::Next(_, end) => {
-            if CLAUSE_LIMIT <= before {
+            let too_many = CLAUSE_LIMIT <= before;
+            if too_many {
                 return Step::Refused(6, Place(at));
             }
             numbered(file, functions, predicates, at, end)

@@ -3,7 +3,7 @@ use Rattle.answers.proofs.Laws.{appeared_before, appeared_now}
 
 -- src/lib.rt:112:9
 pub returns-then-number-free : goal.returns-then-number-free
-returns-then-number-free c = search (appeared_before, appeared_now)
+returns-then-number-free c = search appeared_before
 
 -- src/lib.rt:108:1
 pub returns : goal.returns

@@ -3,11 +3,11 @@ use Rattle.answers.proofs.Laws.{walk_again, walk_over, walk_stopped}
 
 -- src/lib.rt:265:13
 pub returns-then-t-ne0 : goal.returns-then-t-ne0
-returns-then-t-ne0 c = search (walk_stopped, walk_over, walk_again)
+returns-then-t-ne0 c = search walk_stopped
 
 -- src/lib.rt:268:13
 pub returns-then-t-eq0 : goal.returns-then-t-eq0
-returns-then-t-eq0 c = search (walk_stopped, walk_over, walk_again)
+returns-then-t-eq0 c = search walk_over
 
 -- src/lib.rt:263:5
 pub loop-t-preserved : goal.loop-t-preserved

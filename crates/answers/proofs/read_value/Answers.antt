@@ -3,7 +3,7 @@ use Rattle.answers.proofs.Laws.{value_bound, value_free}
 
 -- src/lib.rt:279:1
 pub returns-in-Free : goal.returns-in-Free
-returns-in-Free c = search (value_free, value_bound)
+returns-in-Free c = search value_free
 
 -- src/lib.rt:279:1
 pub returns-in-Bound : goal.returns-in-Bound

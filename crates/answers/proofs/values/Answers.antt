@@ -3,7 +3,7 @@ use Rattle.answers.proofs.Laws.{values_again, values_end, values_stopped}
 
 -- src/lib.rt:336:13
 pub returns-then-t-ne0 : goal.returns-then-t-ne0
-returns-then-t-ne0 c = search (values_stopped, values_end)
+returns-then-t-ne0 c = search values_stopped
 
 -- src/lib.rt:334:5
 pub loop-x-preserved : goal.loop-x-preserved
@@ -11,4 +11,4 @@ loop-x-preserved c = search values_again
 
 -- src/lib.rt:315:1
 pub returns : goal.returns
-returns c = search (values_stopped, values_end)
+returns c = search values_end

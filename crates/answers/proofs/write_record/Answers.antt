@@ -7,4 +7,4 @@ returns-then-write c = search record_written
 
 -- src/lib.rt:69:1
 pub returns-else-write : goal.returns-else-write
-returns-else-write c = search (record_written, record_measured)
+returns-else-write c = search record_measured

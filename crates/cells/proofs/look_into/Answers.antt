@@ -3,7 +3,7 @@ use Rattle.cells.proofs.Laws.{look_bound, look_free}
 
 -- src/lib.rt:295:1
 pub returns-in-Free : goal.returns-in-Free
-returns-in-Free c = search (look_free, look_bound)
+returns-in-Free c = search look_free
 
 -- src/lib.rt:295:1
 pub returns-in-Bound : goal.returns-in-Bound

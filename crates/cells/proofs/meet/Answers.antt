@@ -7,4 +7,4 @@ returns-then-byte_at-eq4 c = search meet_variable
 
 -- src/lib.rt:196:1
 pub returns : goal.returns
-returns c = search (meet_variable, meet_function)
+returns c = search meet_function

@@ -11,4 +11,4 @@ loop-p-preserved c = search scan_on
 
 -- src/lib.rt:224:1
 pub returns : goal.returns
-returns c = search (scan_met, scan_over)
+returns c = search scan_over

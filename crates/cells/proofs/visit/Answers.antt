@@ -7,11 +7,11 @@ returns-then-y-x c = search visit_same
 
 -- src/lib.rt:181:9
 pub returns-then-cell-eq0 : goal.returns-then-cell-eq0
-returns-then-cell-eq0 c = search (visit_free, visit_known, visit_listed)
+returns-then-cell-eq0 c = search visit_free
 
 -- src/lib.rt:185:9
 pub returns-then-mark-stamp : goal.returns-then-mark-stamp
-returns-then-mark-stamp c = search (visit_free, visit_known, visit_listed)
+returns-then-mark-stamp c = search visit_known
 
 -- src/lib.rt:173:1
 pub returns : goal.returns

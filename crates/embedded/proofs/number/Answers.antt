@@ -7,4 +7,4 @@ returns-in-Refused c = search refused_number
 
 -- src/lib.rt:27:1
 pub returns-in-Good : goal.returns-in-Good
-returns-in-Good c = search (refused_number, good_number)
+returns-in-Good c = search good_number

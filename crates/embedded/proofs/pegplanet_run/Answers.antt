@@ -7,7 +7,7 @@ slice_bounds-embedded-end-then-out-gt4000000000 c = search room_part
 
 -- src/lib.rt:108:9
 pub returns-then-out-gt4000000000 : goal.returns-then-out-gt4000000000
-returns-then-out-gt4000000000 c = search (embed_some, embed_all)
+returns-then-out-gt4000000000 c = search embed_some
 
 -- src/lib.rt:103:1
 pub returns : goal.returns

@@ -3,7 +3,7 @@ use Rattle.matching.proofs.Laws.{bind_binds, bind_inside}
 
 -- src/lib.rt:126:9
 pub returns-then-inside : goal.returns-then-inside
-returns-then-inside c = search (bind_inside, bind_binds)
+returns-then-inside c = search bind_inside
 
 -- src/lib.rt:112:1
 pub returns : goal.returns

@@ -23,4 +23,4 @@ returns-in-Over c = search match_crowded
 
 -- src/lib.rt:285:1
 pub returns : goal.returns
-returns c = search (match_late, match_again)
+returns c = search match_late

@@ -1,9 +1,9 @@
 use Rattle.reading.proofs.rest.Goals as goal
-use Rattle.reading.proofs.FileLaws.{query_good, query_refused, rest_refused}
+use Rattle.reading.proofs.FileLaws.{query_good, query_refused}
 
 -- src/lib.rt:51:1
 pub returns-in-Refused-query : goal.returns-in-Refused-query
-returns-in-Refused-query c = search (rest_refused, query_refused)
+returns-in-Refused-query c = search query_refused
 
 -- src/lib.rt:51:1
 pub returns-in-Next : goal.returns-in-Next

@@ -1,10 +1,11 @@
+use Rattle.std.proofs.Common.{arith}
 use Rattle.search.proofs.back.Goals as goal
 use Rattle.search.proofs.Laws.{back_again, back_less, back_none, back_retry}
 
 -- src/lib.rt:182:13
 pub returns-then-rest-gt0 : goal.returns-then-rest-gt0
 returns-then-rest-gt0 c =
-    back_retry _ _ _ _ _ _ _ _ c.loop-c.invariant _ _ _ c.loop-c-test.true c.read_step-mark.ensures c.undo.ensures c.rest_of-rest.ensures _ c.if-rest-gt0.true c.retry.ensures
+    back_retry _ _ _ _ _ _ _ _ c.loop-c.invariant _ _ _ (omega arith) c.read_step-mark.ensures c.undo.ensures c.rest_of-rest.ensures _ c.if-rest-gt0.true c.retry.ensures
 
 -- src/lib.rt:177:5
 pub loop-c-smaller : goal.loop-c-smaller

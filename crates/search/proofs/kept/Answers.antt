@@ -3,7 +3,7 @@ use Rattle.search.proofs.Laws.{kept_before, kept_none}
 
 -- src/lib.rt:374:1
 pub returns-then-step-eq0 : goal.returns-then-step-eq0
-returns-then-step-eq0 c = search (kept_none, kept_before)
+returns-then-step-eq0 c = search kept_none
 
 -- src/lib.rt:374:1
 pub returns-else-step-eq0 : goal.returns-else-step-eq0

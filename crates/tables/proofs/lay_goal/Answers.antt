@@ -3,7 +3,7 @@ use Rattle.tables.proofs.Walks.{goal_arguments, goal_call, goal_cut}
 
 -- src/lib.rt:96:9
 pub returns-then-file-p-eq-A_CUT : goal.returns-then-file-p-eq-A_CUT
-returns-then-file-p-eq-A_CUT c = search (goal_cut, goal_call)
+returns-then-file-p-eq-A_CUT c = search goal_cut
 
 -- src/lib.rt:98:5
 pub lay_arguments-requires : goal.lay_arguments-requires

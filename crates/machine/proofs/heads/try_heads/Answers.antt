@@ -27,4 +27,4 @@ returns-in-Over c = search heads_end
 
 -- src/heads.rt:81:1
 pub returns : goal.returns
-returns c = search (heads_late, heads_end)
+returns c = search heads_late

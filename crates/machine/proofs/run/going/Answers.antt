@@ -7,16 +7,16 @@ returns-in-Over c = search over_stops
 
 -- src/run.rt:142:1
 pub returns-in-Try : goal.returns-in-Try
-returns-in-Try c = search (try_goes, pair_goes, cut_goes, answer_goes)
+returns-in-Try c = search try_goes
 
 -- src/run.rt:142:1
 pub returns-in-Pair : goal.returns-in-Pair
-returns-in-Pair c = search (try_goes, pair_goes, cut_goes, answer_goes)
+returns-in-Pair c = search pair_goes
 
 -- src/run.rt:142:1
 pub returns-in-Cut : goal.returns-in-Cut
-returns-in-Cut c = search (try_goes, pair_goes, cut_goes, answer_goes)
+returns-in-Cut c = search cut_goes
 
 -- src/run.rt:142:1
 pub returns-in-Answer : goal.returns-in-Answer
-returns-in-Answer c = search (try_goes, pair_goes, cut_goes, answer_goes)
+returns-in-Answer c = search answer_goes

@@ -3,7 +3,7 @@ use Rattle.machine.proofs.Laws.{running_again, running_end, running_less, runnin
 
 -- src/run.rt:196:5
 pub loop-g-init : goal.loop-g-init
-loop-g-init c = search (running_start, running_again)
+loop-g-init c = search running_start
 
 -- src/run.rt:196:5
 pub loop-g-smaller : goal.loop-g-smaller

@@ -3,7 +3,7 @@ use Rattle.reading.proofs.ClauseLaws.{query_body, query_over}
 
 -- src/clause.rt:152:9
 pub returns-then-not-in_range : goal.returns-then-not-in_range
-returns-then-not-in_range c = search (query_over, query_body)
+returns-then-not-in_range c = search query_over
 
 -- src/clause.rt:144:1
 pub returns : goal.returns

@@ -3,7 +3,7 @@ use Rattle.reading.proofs.ClauseLaws.{body_good, body_refused, body_unused}
 
 -- src/clause.rt:90:17
 pub returns-then-s-declared : goal.returns-then-s-declared
-returns-then-s-declared c = search (body_unused, body_refused)
+returns-then-s-declared c = search body_unused
 
 -- src/clause.rt:73:1
 pub returns-in-Refused : goal.returns-in-Refused

@@ -7,19 +7,19 @@ bounds-file-at c = search goal_inside
 
 -- src/clause.rt:31:17
 pub returns-then-file-at-eq-CUT : goal.returns-then-file-at-eq-CUT
-returns-then-file-at-eq-CUT c = search (goal_cut, goal_called)
+returns-then-file-at-eq-CUT c = search goal_cut
 
 -- src/clause.rt:33:19
 pub arity_at-requires-clause-p_in_bounds : goal.arity_at-requires-clause-p_in_bounds
-arity_at-requires-clause-p_in_bounds c = search (goal_inside, called_inside)
+arity_at-requires-clause-p_in_bounds c = search called_inside
 
 -- src/clause.rt:16:1
 pub returns-in-Refused : goal.returns-in-Refused
-returns-in-Refused c = search (goal_refused, goal_called)
+returns-in-Refused c = search goal_refused
 
 -- src/clause.rt:16:1
 pub returns-in-Unknown : goal.returns-in-Unknown
-returns-in-Unknown c = search (goal_refused, goal_unknown, goal_called)
+returns-in-Unknown c = search goal_unknown
 
 -- src/clause.rt:16:1
 pub returns-in-Of : goal.returns-in-Of

@@ -7,11 +7,11 @@ asked-requires-clause-p_in_bounds c = search query_inside
 
 -- src/clause.rt:173:1
 pub returns-in-Refused : goal.returns-in-Refused
-returns-in-Refused c = search (last_refused, query_refused, query_ending)
+returns-in-Refused c = search last_refused
 
 -- src/clause.rt:173:1
 pub returns-in-Refused-asked : goal.returns-in-Refused-asked
-returns-in-Refused-asked c = search (last_refused, query_refused, query_ending)
+returns-in-Refused-asked c = search query_refused
 
 -- src/clause.rt:173:1
 pub returns-in-Next-asked : goal.returns-in-Next-asked

@@ -1,5 +1,5 @@
 use Rattle.reading.proofs.row.arities.Goals as goal
-use Rattle.reading.proofs.RowLaws.{counted_less, counted_more, counted_refused, turn, turn_body}
+use Rattle.reading.proofs.RowLaws.{counted_less, counted_more, counted_refused, turn_body}
 
 -- src/row.rt:56:15
 pub declared-requires : goal.declared-requires
@@ -15,4 +15,4 @@ loop-k-smaller c = search counted_less
 
 -- src/row.rt:55:5
 pub loop-k-preserved : goal.loop-k-preserved
-loop-k-preserved c = search (turn, counted_more)
+loop-k-preserved c = search counted_more

@@ -7,7 +7,7 @@ allowed-requires c = search declared_inside
 
 -- src/row.rt:41:17
 pub returns-then-not-allowed : goal.returns-then-not-allowed
-returns-then-not-allowed c = search (declared_bad, declared_refused)
+returns-then-not-allowed c = search declared_bad
 
 -- src/row.rt:33:1
 pub returns-in-Refused : goal.returns-in-Refused

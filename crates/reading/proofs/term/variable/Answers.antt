@@ -3,11 +3,11 @@ use Rattle.reading.proofs.TermLaws.{variable_ahead, variable_new, variable_old, 
 
 -- src/term.rt:38:9
 pub returns-then-declared-x : goal.returns-then-declared-x
-returns-then-declared-x c = search (variable_undeclared, variable_ahead)
+returns-then-declared-x c = search variable_undeclared
 
 -- src/term.rt:41:9
 pub returns-then-seen-x : goal.returns-then-seen-x
-returns-then-seen-x c = search (variable_undeclared, variable_ahead)
+returns-then-seen-x c = search variable_ahead
 
 -- src/term.rt:44:9
 pub returns-then-x-seen : goal.returns-then-x-seen
