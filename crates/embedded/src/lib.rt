@@ -79,7 +79,8 @@ fn pack(r: Outcome) -> u64
 fn embedded(file: &[u8], budget: u32, wanted: u32, out: &mut [u8]) -> Outcome
     ensures { EmbedRuns file.now budget wanted out.old result out.new }
 {
-    if 4000 < file.len() {
+    let too_long = 4000 < file.len();
+    if too_long {
         return Outcome::Refused(2, Place(0));
     }
     let mut scratch = [0u32; 16064];

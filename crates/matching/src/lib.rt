@@ -181,7 +181,8 @@ fn functions(
     }
     let n = byte_at(file, 2 * (f as usize) + 1);
     let longer = add(work, n);
-    if limit < longer {
+    let too_many = limit < longer;
+    if too_many {
         return Pairing::Over;
     }
     push_pairs(w, lay, work, n, behind(s, 3), behind(t, 3));

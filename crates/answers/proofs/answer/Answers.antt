@@ -1,3 +1,4 @@
+use Rattle.std.proofs.Common.{◌+◌, ◌*◌, ◌<◌, ◌≤◌, arith}
 use Rattle.answers.proofs.answer.Goals as goal
 use Rattle.answers.proofs.Laws.{answer_crowded, answer_first, answer_full, answer_last, answer_whole}
 
@@ -15,8 +16,10 @@ returns-then-t-ne0 c = search answer_full
 
 -- src/lib.rt:434:9
 pub returns-then-room_left-rest : goal.returns-then-room_left-rest
-returns-then-room_left-rest c = search answer_last
+returns-then-room_left-rest c =
+    let few : c.room_left.result < 3 * c.args.steps + 1 = omega arith in search answer_last
 
 -- src/lib.rt:409:1
 pub returns : goal.returns
-returns c = search answer_whole
+returns c =
+    let enough : 3 * c.args.steps + 1 ≤ c.room_left.result = omega arith in search answer_whole
