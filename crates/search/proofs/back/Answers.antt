@@ -1,4 +1,4 @@
-use Rattle.std.proofs.Common.{arith, rules}
+use Rattle.std.proofs.Common.{◌<◌, ◌≤◌, arith}
 use Rattle.search.proofs.back.Goals as goal
 use Rattle.search.proofs.Laws.{back_again, back_less, back_none, back_retry}
 
@@ -9,12 +9,12 @@ returns-then-rest-gt0 c =
 
 -- src/lib.rt:177:5
 pub loop-c-smaller : goal.loop-c-smaller
-loop-c-smaller c = search (back_less, rules)
+loop-c-smaller c = let some : 0 < c.loop-c.c = omega arith in search back_less
 
 -- src/lib.rt:177:5
 pub loop-c-preserved : goal.loop-c-preserved
-loop-c-preserved c = search (back_again, rules)
+loop-c-preserved c = let some : 0 < c.loop-c.c = omega arith in search back_again
 
 -- src/lib.rt:172:1
 pub returns : goal.returns
-returns c = search (back_none, rules)
+returns c = let none : c.loop-c.c ≤ 0 = omega arith in search back_none
