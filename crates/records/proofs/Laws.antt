@@ -1,6 +1,6 @@
 -- The code's table is the definition's, and each of its lengths is small.
 -- Assumes nothing.
-use Prim.Native.Nat.{ℕ, zero, suc, ◌≤◌}
+use Prim.Native.Nat.{ℕ, zero, suc, ◌+◌, ◌≤◌}
 use mathlib.Core.Path.{◌≡◌, refl, sym, ap, ap₂, ◌∙◌}
 use mathlib.Core.Bool.{Bool, true, false, ◌&&◌}
 use mathlib.Core.List.{List, [], ◌∷◌}
@@ -8,7 +8,28 @@ use native.Mathlib.Omega.{arith}
 use lib.Dec.{leb}
 use lib.ListN.{length, get_or}
 use borrow.Author.Tests.{leb-true}
+use denote.Enum.Declared.{tag_of}
 use Rattle.meaning.specs.Kinds.{body_length, body_lengths}
+use Rattle.records.specs.Numbers.{number}
+use Rattle.records.specs.contracts.Kind.{the_type}
+use Rattle.records.specs.declared.Kind.{Kind}
+use Rattle.records.specs.declared.Kind.TheVariants.{Function, Predicate, Clause, Variable, Application, Goal, Cut, Query, End, Answer, AnswerVariable, Step, AnswerEnd}
+
+-- a kind as a number is document 01's
+pub kind_tag : (k : Kind) → tag_of the_type k + 1 ≡ number k
+kind_tag Function = refl
+kind_tag Predicate = refl
+kind_tag Clause = refl
+kind_tag Variable = refl
+kind_tag Application = refl
+kind_tag Goal = refl
+kind_tag Cut = refl
+kind_tag Query = refl
+kind_tag End = refl
+kind_tag Answer = refl
+kind_tag AnswerVariable = refl
+kind_tag Step = refl
+kind_tag AnswerEnd = refl
 
 all_small : List ℕ → Bool
 all_small [] = true
