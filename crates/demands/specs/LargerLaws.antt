@@ -1,10 +1,10 @@
 -- What a file comes to by larger limits of a rule set: the same, unless it was too large by the smaller ones.
 -- Assumes nothing.
 use Prim.Native.Nat.{ℕ, zero, suc, ◌+◌, ◌-◌, ◌≤◌, ◌<◌, min}
-use Rattle.std.specs.Prelude.{◌≡◌, Bool, ◌&&◌, ◌||◌, take}
+use Rattle.std.specs.Prelude.{◌≡◌, Bool, ◌&&◌, take}
 use Rattle.std.proofs.Math.Path.{refl, ap}
 use Rattle.std.proofs.Common.{sym, subst, ◌∙◌, length-take-le}
-use Rattle.std.proofs.Math.Bool.{true, false}
+use Rattle.std.proofs.Math.Bool.{true, false, or-true}
 use mathlib.Core.List.{List, [], ◌∷◌, ◌++◌}
 use native.Mathlib.Omega.{arith}
 use Rattle.std.proofs.Math.Dec.{leb, ltb}
@@ -27,10 +27,6 @@ use Rattle.demands.specs.Demands.{SaysWithin}
 use Rattle.demands.specs.Larger.{AcceptedBefore, SameCalls, SameEmbedded, closing, closed, TooLarge, by_clauses, by_variables, by_asked, RefusedBefore, RefusedLater, SameRefusals}
 use Rattle.demands.specs.Faults.{Within, Inside, Any, Stays, fault_of, after_inside, need_inside, clause_inside, query_inside, close_inside, items_inside}
 use Rattle.demands.specs.Begins.{next_is, same_read, clause_same}
-
-or_true : (b : Bool) → (b || true) ≡ true
-or_true true = refl
-or_true false = refl
 
 and_middle : (x y : Bool) → (x && false && y) ≡ false
 and_middle true y = refl
@@ -78,7 +74,7 @@ module _ (file : List ℕ) (p : ℕ) (inside : p ≤ length file) where
   closed_reads most more latest functions predicates clauses s =
       let l = closed_length in
       nothing_asked (closed file p) most more latest functions predicates clauses s p (p + 3)
-      (closed_next (item_due latest) s p 0 a_query (p + 3) (omega arith) refl (or_true (leb latest a_query && leb a_query a_clause)) (omega arith) (omega arith))
+      (closed_next (item_due latest) s p 0 a_query (p + 3) (omega arith) refl (or-true (leb latest a_query && leb a_query a_clause)) (omega arith) (omega arith))
       (closed_ends p 0 (omega arith)) (closed_ends (p + 1) 1 refl) (closed_ends (p + 2) 2 refl)
       (closed_next end_due 0 (p + 3) 3 the_end (length (closed file p)) refl refl refl (omega arith) (omega arith))
 

@@ -6,6 +6,7 @@ use Rattle.std.proofs.Common.{ap, sym, ◌∙◌, inl, inr, append_assoc}
 use Rattle.std.proofs.lemmas.List.{map-append}
 use native.Mathlib.Omega.{arith}
 use Rattle.std.proofs.Math.ListN.{length, length-append}
+use Rattle.std.proofs.Math.Seq.{drop-length}
 use Rattle.meaning.specs.Editions.{Edition, document_01, todays, keeping}
 use Rattle.meaning.specs.Rules.{Call, Goal, call, cut, Rules}
 use Rattle.meaning.specs.Answers.{Answer}
@@ -23,15 +24,11 @@ use Rattle.demands.specs.Theorems.{result_ran}
 use Rattle.demands.specs.LargerLaws.{accepted_before, same_result as larger_result, same_embedded as larger_embedded}
 
 -- ---- no choice is kept
-drop_all : {A : Type 0} (l : List A) → drop (length l) l ≡ []
-drop_all [] = refl
-drop_all (a ∷ l) = drop_all l
-
 pub drops_all : DropsAll
 unfolding move keep
 drops_all R L wanted room n cs d =
     let all : length cs - 0 ≡ length cs = omega arith in
-    ap (λ (x : List Choice). go_on R L wanted room n x d) (rw all (drop_all cs))
+    ap (λ (x : List Choice). go_on R L wanted room n x d) (rw all (drop-length cs))
 
 -- ---- there are never more choices than steps, nor more steps than S
 -- each choice was met before the one after it, the last before there were u steps
@@ -154,7 +151,7 @@ waiting_cut h gs hs {cs = cs} e (open_yet (os, q) w) = go (last_behind (cut_to h
     go (inr (z, y)) =
         let none : h ≡ 0 = cc in
         let all : length cs - h ≡ length cs = omega arith in
-        rw (y, all, drop_all cs) made
+        rw (y, all, drop-length cs) made
 waiting_cut h gs hs e made = let x : ◌≡◌ {A = ℕ} 0 1 = cc in absurd (omega arith)
 
 waiting_listed : (gs : List Open) (a : Answer) {cs : List Choice} {ls : List Answer} → gs ≡ [] → Waiting gs cs ls → WaitingBack cs (ls ++ a ∷ [])
