@@ -1,34 +1,23 @@
 -- The predicates are cleared one after another, and the clauses linked from the last to the first.
 -- Assumes nothing.
-use Prim.Native.Nat.{ℕ, zero, suc, ◌+◌, ◌-◌, ◌*◌, ◌≤◌, ◌<◌}
-use mathlib.Core.Path.{◌≡◌, refl, sym, ap, ◌∙◌}
-use mathlib.Core.List.{List}
-use native.Mathlib.Omega.{arith}
-use lib.ListN.{length, get_or, set, length-set}
-use lib.Seq.{get_or-set_other}
+use Rattle.std.proofs.Common.{ℕ, zero, suc, ◌+◌, ◌-◌, ◌*◌, ◌≤◌, ◌<◌, ◌≡◌, sym, ap, ◌∙◌, List, length, get_or, set, replicate, length-set, get_or-set_other, add-one, arith}
+use Rattle.std.proofs.Math.Seq.{paste}
+use Rattle.std.proofs.lemmas.List.{length-replicate}
+use Rattle.std.proofs.lemmas.List.Edits.{paste_none, fill_from_more}
+use Rattle.std.proofs.lemmas.Slice.{put_mid-paste}
+use borrow.Rule.Slice.PartMut.{put_mid}
 use Rattle.tables.specs.Laid.{clear, link, links}
 use Rattle.tables.specs.Here.{CanLink}
 
 -- ---- clearing
-pub record Clearing (first n : ℕ) (w₀ : List ℕ) (i : ℕ) (w : List ℕ) : Type 0 where
-  pub room : first + n ≤ length w₀
-  pub long : length w ≡ length w₀
-  pub order : i ≤ n
-  pub is : w ≡ clear first i w₀
-
-pub clear_start : (first n : ℕ) (w : List ℕ) → first + n ≤ length w → Clearing first n w 0 w
+clear_pastes : (first n : ℕ) (w : List ℕ) → first + n ≤ length w → clear first n w ≡ paste w first (replicate n 0) n
 unfolding clear
-clear_start first n w h = record { room = h; long = refl; order = omega arith; is = refl }
+clear_pastes first zero w h = paste_none w first (replicate 0 0)
+clear_pastes first (suc n) w h = ap (λ v. set v (first + n) 0) (clear_pastes first n w (omega arith)) ∙ rw add-one at (fill_from_more w first n 0 (omega arith))
 
-module _ (first n : ℕ) (w₀ : List ℕ) (i : ℕ) (w : List ℕ) (C : Clearing first n w₀ i w) where
-  pub clear_again : i < n → Clearing first n w₀ (i + 1) (set w (first + i) 0)
-  unfolding clear
-  clear_again h =
-      let one : i + 1 ≡ suc i = omega arith in
-      record { room = C.room; long = simp length-set C.long; order = omega arith; is = rw one (ap (λ (x : List ℕ). set x (first + i) 0) C.is) }
-
-  pub clear_end : n ≤ i → w ≡ clear first n w₀
-  clear_end h = let o = C.order in let e : i ≡ n = omega arith in rw (← e) C.is
+pub filled : (first k n m : ℕ) (w ys : List ℕ) → first + n ≤ length w → k ≡ n → m ≡ n → ys ≡ replicate m 0 → put_mid first k w ys ≡ clear first n w
+filled first k n m w ys h e f z =
+    put_mid-paste first k w ys (replicate n 0) n (z ∙ rw f) (omega arith) (sym (length-replicate n 0)) ∙ sym (clear_pastes first n w h)
 
 -- ---- linking
 pub record Linking (first table n : ℕ) (w₀ : List ℕ) (k : ℕ) (w : List ℕ) : Type 0 where
@@ -36,22 +25,12 @@ pub record Linking (first table n : ℕ) (w₀ : List ℕ) (k : ℕ) (w : List �
   pub long : length w ≡ length w₀
   pub is : links first table k w ≡ links first table n w₀
 
-pub link_start : (first table n : ℕ) (w : List ℕ) → CanLink first table n w → Linking first table n w n w
-link_start first table n w C = record { can = C; long = refl; is = refl }
-
 links_more : (first table k : ℕ) (w : List ℕ) → 0 < k → links first table k w ≡ links first table (k - 1) (link first table (k - 1) w)
 unfolding links
 links_more first table zero w h = absurd (omega arith)
 links_more first table (suc k) w h = let e : suc k - 1 ≡ k = omega arith in rw e
 
 module _ (first table n : ℕ) (w₀ : List ℕ) (k : ℕ) (w : List ℕ) (L : Linking first table n w₀ k w) where
-  -- the predicate's word
-  pub link_index : (q : ℕ) → q ≡ get_or w (table + 2 * (k - 1) + 1) 0 → 0 < k → first + q < length w
-  link_index q e h = let f = L.can.fits in let b = L.can.behind (k - 1) (omega arith) in omega arith
-
-  pub link_index_set : (q i v : ℕ) → q ≡ get_or w (table + 2 * (k - 1) + 1) 0 → 0 < k → first + q < length (set w i v)
-  link_index_set q i v e h = simp length-set (link_index q e h)
-
   -- the clauses below are as they were
   link_kept : (j : ℕ) → 0 < k → j < k - 1 → get_or (link first table (k - 1) w) (table + 2 * j + 1) 0 ≡ get_or w (table + 2 * j + 1) 0
   unfolding link

@@ -1,10 +1,6 @@
 -- Walking from place to place: what is asked at each call, and what each loop turn and each return gives.
 -- Assumes nothing.
-use Prim.Native.Nat.{ℕ, suc, ◌+◌, ◌-◌, ◌*◌, ◌≤◌, ◌<◌}
-use mathlib.Core.Path.{◌≡◌, refl, sym, ◌∙◌, subst}
-use mathlib.Core.List.{List, [], ◌∷◌}
-use native.Mathlib.Omega.{arith}
-use lib.ListN.{length, get_or, set, length-set}
+use Rattle.std.proofs.Common.{ℕ, suc, ◌+◌, ◌-◌, ◌*◌, ◌≤◌, ◌<◌, ◌≡◌, refl, sym, ◌∙◌, subst, List, [], ◌∷◌, length, get_or, set, length-set, arith}
 use Rattle.meaning.specs.Terms.{Term, var, app, Terms, []ₜ, ◌∷ₜ◌, count}
 use Rattle.meaning.specs.Rules.{Goal, call, cut, Clause}
 use Rattle.meaning.specs.Reading.{byte, two_bytes}
@@ -13,42 +9,22 @@ use Rattle.tables.specs.Laid.{lay_term, lay_terms, lay_arguments, lay_goal, lay_
 use Rattle.tables.specs.Here.{Room, HereTerm, HereTerms, HereGoal, HereGoals, HereClause, HereClauses}
 use Rattle.tables.specs.Here.{CanTerm, HasTerm, CanTerms, HasTerms, CanArguments, HasArguments, CanGoal, HasGoal, CanGoals, HasGoals, CanClause, HasClause, CanClauses, HasClauses}
 
-pub number_is : (file : List ℕ) (p h l : ℕ) → h ≡ get_or file p 0 → l ≡ get_or file (p + 1) 0 → 256 * h + l ≡ two_bytes file p
-unfolding two_bytes byte
-number_is file p h l e f = rw (e, f)
-
 room_kept : (file w v : List ℕ) → Room file w → length v ≡ length w → Room file v
 room_kept file w v R e = let r = R.room in record { small = R.small; room = omega arith }
 
--- ---- what is here ends in the file
+-- ---- what is here begins and ends in the file
 module _ (file : List ℕ) where
-  mutual
-    unfolding term_length
+  terms_within : (levels p : ℕ) (ts : Terms) → HereTerms file levels p ts → p + terms_length ts ≤ length file
+  unfolding term_length
+  terms_within levels p []ₜ h = omega arith
+  terms_within levels p (t ∷ₜ ts) h = let e = terms_within levels (p + term_length t) ts h.1 in omega arith
 
-    term_within : (levels p : ℕ) (t : Term) → HereTerm file levels p t → p + term_length t ≤ length file
-    term_within levels p (var x) h = h.1
-    term_within levels p (app f ts) h = let e = terms_within (levels - 1) (p + 3) ts h.3 in omega arith
-
-    terms_within : (levels p : ℕ) (ts : Terms) → HereTerms file levels p ts → p + terms_length ts ≤ length file
-    terms_within levels p []ₜ h = omega arith
-    terms_within levels p (t ∷ₜ ts) h = let e = terms_within levels (p + term_length t) ts h.1 in omega arith
-
-  goals_within : (base p : ℕ) (gs : List Goal) → HereGoals file base p gs → p + goals_length gs ≤ length file
-  unfolding goals_length
-  goals_within base p [] h = omega arith
-  goals_within base p (g ∷ gs) h = let e = goals_within base (p + goal_length g) gs h.1 in omega arith
-
-  clauses_within : (base p : ℕ) (cs : List Clause) → HereClauses file base p cs → p + clauses_length cs ≤ length file
-  unfolding clauses_length
-  clauses_within base p [] h = omega arith
-  clauses_within base p (c ∷ cs) h = let e = clauses_within base (p + clause_length c) cs h.1 in omega arith
+  terms_start_within : (levels p : ℕ) (ts : Terms) → HereTerms file levels p ts → p ≤ length file
+  terms_start_within levels p ts h = let e = terms_within levels p ts h in omega arith
 
   term_starts : (levels p : ℕ) (t : Term) → HereTerm file levels p t → p + 2 ≤ length file
   term_starts levels p (var x) h = h.1
   term_starts levels p (app f ts) h = let e = h.2.within in omega arith
-
-  terms_start_within : (levels p : ℕ) (ts : Terms) → HereTerms file levels p ts → p ≤ length file
-  terms_start_within levels p ts h = let e = terms_within levels p ts h in omega arith
 
   goal_starts : (base p : ℕ) (g : Goal) → HereGoal file base p g → p < length file
   goal_starts base p (call g) h = let e = h.1.arity.within in omega arith
@@ -56,9 +32,9 @@ module _ (file : List ℕ) where
 
 -- ---- a term
 module _ (file w : List ℕ) (p levels : ℕ) (C : CanTerm file w p levels) where
-  pub term_variable : get_or file p 0 ≡ 4 → HasTerm file w p levels (p + 2) (set w (64 + p) (p + 2))
+  pub term_variable : (q : ℕ) → q ≡ p + 2 → get_or file p 0 ≡ 4 → HasTerm file w p levels (p + 2) (set w (64 + p) q)
   unfolding byte lay_term term_length
-  term_variable k = record { within = C.start; is = go }
+  term_variable q e k = rw e (record { within = C.start; is = go })
     where
       go : (t : Term) → HereTerm file levels p t → (set w (64 + p) (p + 2) ≡ lay_term t p w) × (p + 2 ≡ p + term_length t)
       go (var x) h = (refl, refl)
@@ -92,28 +68,25 @@ module _ (file w : List ℕ) (p levels : ℕ) (C : CanTerm file w p levels) wher
 
 -- ---- terms
 -- the terms that are left, with which the walk comes to the same end
-pub record RestTerms (file : List ℕ) (w₀ : List ℕ) (p levels left at : ℕ) (w : List ℕ) (ts : Terms) : Type 0 where
+pub record RestTerms (file : List ℕ) (w₀ : List ℕ) (p n levels done at : ℕ) (w : List ℕ) (ts : Terms) : Type 0 where
   pub rest : Terms
-  pub counted : count rest ≡ left
+  pub counted : done + count rest ≡ n
   pub here : HereTerms file levels at rest
   pub words : lay_terms rest at w ≡ lay_terms ts p w₀
   pub place : at + terms_length rest ≡ p + terms_length ts
 
-pub record GoingTerms (file w₀ : List ℕ) (p n levels left at : ℕ) (w : List ℕ) : Type 0 where
+pub record GoingTerms (file w₀ : List ℕ) (p n levels done at : ℕ) (w : List ℕ) : Type 0 where
   pub can : CanTerms file w₀ p n levels
   pub long : length w ≡ length w₀
   pub within : at ≤ length file
-  pub left_over : (ts : Terms) → count ts ≡ n → HereTerms file levels p ts → RestTerms file w₀ p levels left at w ts
-
-pub terms_start : (file w : List ℕ) (p n levels : ℕ) → CanTerms file w p n levels → GoingTerms file w p n levels n p w
-terms_start file w p n levels C = record { can = C; long = refl; within = C.start; left_over = λ ts c h. record { rest = ts; counted = c; here = h; words = refl; place = refl } }
+  pub left_over : (ts : Terms) → count ts ≡ n → HereTerms file levels p ts → RestTerms file w₀ p n levels done at w ts
 
 -- one term less
-next_terms : (file w₀ : List ℕ) (p levels left at : ℕ) (w : List ℕ) (ts : Terms) (r : ℕ) (v : List ℕ) → RestTerms file w₀ p levels left at w ts → 0 < left → HasTerm file w at levels r v → RestTerms file w₀ p levels (left - 1) r v ts
+next_terms : (file w₀ : List ℕ) (p n levels done at : ℕ) (w : List ℕ) (ts : Terms) (r : ℕ) (v : List ℕ) → RestTerms file w₀ p n levels done at w ts → done < n → HasTerm file w at levels r v → RestTerms file w₀ p n levels (done + 1) r v ts
 unfolding count term_length lay_term
-next_terms file w₀ p levels left at w ts r v T l H = go T.rest T.counted T.here T.words T.place
+next_terms file w₀ p n levels done at w ts r v T l H = go T.rest T.counted T.here T.words T.place
   where
-    go : (us : Terms) → count us ≡ left → HereTerms file levels at us → lay_terms us at w ≡ lay_terms ts p w₀ → at + terms_length us ≡ p + terms_length ts → RestTerms file w₀ p levels (left - 1) r v ts
+    go : (us : Terms) → done + count us ≡ n → HereTerms file levels at us → lay_terms us at w ≡ lay_terms ts p w₀ → at + terms_length us ≡ p + terms_length ts → RestTerms file w₀ p n levels (done + 1) r v ts
     go []ₜ c h e f = absurd (omega arith)
     go (u ∷ₜ us) c h e f =
         let (g, q) = H.is u h.0 in
@@ -125,29 +98,29 @@ next_terms file w₀ p levels left at w ts r v T l H = go T.rest T.counted T.her
           place = omega arith;
         }
 
-first_term : (file : List ℕ) (levels at left : ℕ) (us : Terms) → count us ≡ left → 0 < left → HereTerms file levels at us → (t : Term) × HereTerm file levels at t
+first_term : (file : List ℕ) (levels at done n : ℕ) (us : Terms) → done + count us ≡ n → done < n → HereTerms file levels at us → (t : Term) × HereTerm file levels at t
 unfolding count
-first_term file levels at left []ₜ c l h = absurd (omega arith)
-first_term file levels at left (u ∷ₜ us) c l h = (u, h.0)
+first_term file levels at done n []ₜ c l h = absurd (omega arith)
+first_term file levels at done n (u ∷ₜ us) c l h = (u, h.0)
 
-module _ (file w₀ : List ℕ) (p n levels left at : ℕ) (w : List ℕ) (G : GoingTerms file w₀ p n levels left at w) where
-  terms_rest : RestTerms file w₀ p levels left at w G.can.which
+module _ (file w₀ : List ℕ) (p n levels done at : ℕ) (w : List ℕ) (G : GoingTerms file w₀ p n levels done at w) where
+  terms_rest : RestTerms file w₀ p n levels done at w G.can.which
   terms_rest = G.left_over G.can.which G.can.counted G.can.here
 
-  pub terms_can : 0 < left → CanTerm file w at levels
+  pub terms_can : done < n → CanTerm file w at levels
   terms_can l =
       let T = terms_rest in
-      let (t, h) = first_term file levels at left T.rest T.counted l T.here in
+      let (t, h) = first_term file levels at done n T.rest T.counted l T.here in
       record { room = room_kept file w₀ w G.can.room G.long; start = term_starts file levels at t h; which = t; here = h }
 
-  pub terms_again : (r : ℕ) (v : List ℕ) → 0 < left → HasTerm file w at levels r v → length v ≡ length w → GoingTerms file w₀ p n levels (left - 1) r v
-  terms_again r v l H e = record { can = G.can; long = e ∙ G.long; within = H.within; left_over = λ ts c h. next_terms file w₀ p levels left at w ts r v (G.left_over ts c h) l H }
+  pub terms_again : (r : ℕ) (v : List ℕ) → done < n → HasTerm file w at levels r v → length v ≡ length w → GoingTerms file w₀ p n levels (done + 1) r v
+  terms_again r v l H e = record { can = G.can; long = e ∙ G.long; within = H.within; left_over = λ ts c h. next_terms file w₀ p n levels done at w ts r v (G.left_over ts c h) l H }
 
-  pub terms_end : left ≤ 0 → HasTerms file w₀ p n levels at w
+  pub terms_end : n ≤ done → HasTerms file w₀ p n levels at w
   unfolding count term_length lay_term
   terms_end l = record { within = G.within; is = λ ts c h. (let T = G.left_over ts c h in go ts T.rest T.counted T.words T.place) }
     where
-      go : (ts us : Terms) → count us ≡ left → lay_terms us at w ≡ lay_terms ts p w₀ → at + terms_length us ≡ p + terms_length ts → (w ≡ lay_terms ts p w₀) × (at ≡ p + terms_length ts)
+      go : (ts us : Terms) → done + count us ≡ n → lay_terms us at w ≡ lay_terms ts p w₀ → at + terms_length us ≡ p + terms_length ts → (w ≡ lay_terms ts p w₀) × (at ≡ p + terms_length ts)
       go ts []ₜ c e f = (e, omega arith)
       go ts (u ∷ₜ us) c e f = absurd (omega arith)
 
@@ -199,27 +172,24 @@ module _ (file w : List ℕ) (base p : ℕ) (C : CanGoal file w base p) where
       go cut h = absurd (k h.0)
 
 -- ---- goals
-pub record RestGoals (file : List ℕ) (w₀ : List ℕ) (base p left at : ℕ) (w : List ℕ) (gs : List Goal) : Type 0 where
+pub record RestGoals (file : List ℕ) (w₀ : List ℕ) (base p n done at : ℕ) (w : List ℕ) (gs : List Goal) : Type 0 where
   pub rest : List Goal
-  pub counted : length rest ≡ left
+  pub counted : done + length rest ≡ n
   pub here : HereGoals file base at rest
   pub words : lay_goals rest at w ≡ lay_goals gs p w₀
   pub place : at + goals_length rest ≡ p + goals_length gs
 
-pub record GoingGoals (file w₀ : List ℕ) (base p n left at : ℕ) (w : List ℕ) : Type 0 where
+pub record GoingGoals (file w₀ : List ℕ) (base p n done at : ℕ) (w : List ℕ) : Type 0 where
   pub can : CanGoals file w₀ base p n
   pub long : length w ≡ length w₀
   pub within : at ≤ length file
-  pub left_over : (gs : List Goal) → length gs ≡ n → HereGoals file base p gs → RestGoals file w₀ base p left at w gs
+  pub left_over : (gs : List Goal) → length gs ≡ n → HereGoals file base p gs → RestGoals file w₀ base p n done at w gs
 
-pub goals_start : (file w : List ℕ) (base p n : ℕ) → CanGoals file w base p n → GoingGoals file w base p n n p w
-goals_start file w base p n C = record { can = C; long = refl; within = C.start; left_over = λ gs c h. record { rest = gs; counted = c; here = h; words = refl; place = refl } }
-
-next_goals : (file w₀ : List ℕ) (base p left at : ℕ) (w : List ℕ) (gs : List Goal) (r : ℕ) (v : List ℕ) → RestGoals file w₀ base p left at w gs → 0 < left → HasGoal file w base at r v → RestGoals file w₀ base p (left - 1) r v gs
+next_goals : (file w₀ : List ℕ) (base p n done at : ℕ) (w : List ℕ) (gs : List Goal) (r : ℕ) (v : List ℕ) → RestGoals file w₀ base p n done at w gs → done < n → HasGoal file w base at r v → RestGoals file w₀ base p n (done + 1) r v gs
 unfolding goals_length lay_goals
-next_goals file w₀ base p left at w gs r v T l H = go T.rest T.counted T.here T.words T.place
+next_goals file w₀ base p n done at w gs r v T l H = go T.rest T.counted T.here T.words T.place
   where
-    go : (us : List Goal) → length us ≡ left → HereGoals file base at us → lay_goals us at w ≡ lay_goals gs p w₀ → at + goals_length us ≡ p + goals_length gs → RestGoals file w₀ base p (left - 1) r v gs
+    go : (us : List Goal) → done + length us ≡ n → HereGoals file base at us → lay_goals us at w ≡ lay_goals gs p w₀ → at + goals_length us ≡ p + goals_length gs → RestGoals file w₀ base p n (done + 1) r v gs
     go [] c h e f = absurd (omega arith)
     go (u ∷ us) c h e f =
         let (g, q) = H.is u h.0 in
@@ -231,41 +201,33 @@ next_goals file w₀ base p left at w gs r v T l H = go T.rest T.counted T.here 
           place = omega arith;
         }
 
-first_goal : (file : List ℕ) (base at left : ℕ) (us : List Goal) → length us ≡ left → 0 < left → HereGoals file base at us → (g : Goal) × HereGoal file base at g
-first_goal file base at left [] c l h = absurd (omega arith)
-first_goal file base at left (u ∷ us) c l h = (u, h.0)
+first_goal : (file : List ℕ) (base at done n : ℕ) (us : List Goal) → done + length us ≡ n → done < n → HereGoals file base at us → (g : Goal) × HereGoal file base at g
+first_goal file base at done n [] c l h = absurd (omega arith)
+first_goal file base at done n (u ∷ us) c l h = (u, h.0)
 
-module _ (file w₀ : List ℕ) (base p n left at : ℕ) (w : List ℕ) (G : GoingGoals file w₀ base p n left at w) where
-  goals_rest : RestGoals file w₀ base p left at w G.can.which
+module _ (file w₀ : List ℕ) (base p n done at : ℕ) (w : List ℕ) (G : GoingGoals file w₀ base p n done at w) where
+  goals_rest : RestGoals file w₀ base p n done at w G.can.which
   goals_rest = G.left_over G.can.which G.can.counted G.can.here
 
-  pub goals_can : 0 < left → CanGoal file w base at
+  pub goals_can : done < n → CanGoal file w base at
   goals_can l =
       let T = goals_rest in
-      let (g, h) = first_goal file base at left T.rest T.counted l T.here in
+      let (g, h) = first_goal file base at done n T.rest T.counted l T.here in
       record { room = room_kept file w₀ w G.can.room G.long; start = goal_starts file base at g h; which = g; here = h }
 
-  pub goals_again : (r : ℕ) (v : List ℕ) → 0 < left → HasGoal file w base at r v → length v ≡ length w → GoingGoals file w₀ base p n (left - 1) r v
-  goals_again r v l H e = record { can = G.can; long = e ∙ G.long; within = H.within; left_over = λ gs c h. next_goals file w₀ base p left at w gs r v (G.left_over gs c h) l H }
+  pub goals_again : (r : ℕ) (v : List ℕ) → done < n → HasGoal file w base at r v → length v ≡ length w → GoingGoals file w₀ base p n (done + 1) r v
+  goals_again r v l H e = record { can = G.can; long = e ∙ G.long; within = H.within; left_over = λ gs c h. next_goals file w₀ base p n done at w gs r v (G.left_over gs c h) l H }
 
-  pub goals_end : left ≤ 0 → HasGoals file w₀ base p n at w
+  pub goals_end : n ≤ done → HasGoals file w₀ base p n at w
   unfolding goals_length lay_goals
   goals_end l = record { within = G.within; is = λ gs c h. (let T = G.left_over gs c h in go gs T.rest T.counted T.words T.place) }
     where
-      go : (gs us : List Goal) → length us ≡ left → lay_goals us at w ≡ lay_goals gs p w₀ → at + goals_length us ≡ p + goals_length gs → (w ≡ lay_goals gs p w₀) × (at ≡ p + goals_length gs)
+      go : (gs us : List Goal) → done + length us ≡ n → lay_goals us at w ≡ lay_goals gs p w₀ → at + goals_length us ≡ p + goals_length gs → (w ≡ lay_goals gs p w₀) × (at ≡ p + goals_length gs)
       go gs [] c e f = (e, omega arith)
       go gs (u ∷ us) c e f = absurd (omega arith)
 
-  pub goals_long : length w ≡ length w₀
-  goals_long = G.long
-
 -- ---- a clause
 module _ (file w : List ℕ) (base p : ℕ) (C : CanClause file w base p) where
-  pub clause_head : CanArguments file w base p (p + 5) 32
-  clause_head =
-      let h = C.here.head in
-      record { room = C.room; start = h.arity.within; known = h.arity.known; which = C.which.head.arguments; here = h }
-
   module _ (r : ℕ) (v : List ℕ) (H : HasArguments file w base p (p + 5) 32 r v) where
     body_starts : (c : Clause) → HereClause file base p c → r ≡ p + head_length c
     unfolding head_length
@@ -309,9 +271,6 @@ pub record GoingClauses (file w₀ : List ℕ) (base p table n k at : ℕ) (w : 
   pub long : length w ≡ length w₀
   pub within : at ≤ length file
   pub left_over : (cs : List Clause) → length cs ≡ n → HereClauses file base p cs → RestClauses file w₀ base p table n k at w cs
-
-pub clauses_start : (file w : List ℕ) (base p table n : ℕ) → CanClauses file w base p table n → GoingClauses file w base p table n 0 p w
-clauses_start file w base p table n C = record { can = C; long = refl; within = C.start; left_over = λ cs c h. record { rest = cs; counted = omega arith; here = h; words = refl; place = refl } }
 
 -- the words once the clause k is entered
 abbrev pub entered : List ℕ → ℕ → ℕ → ℕ → ℕ → List ℕ
@@ -368,6 +327,3 @@ module _ (file w₀ : List ℕ) (base p table n k at : ℕ) (w : List ℕ) (G : 
       go : (cs us : List Clause) → k + length us ≡ n → lay_clauses table k us at w ≡ lay_clauses table 0 cs p w₀ → at + clauses_length us ≡ p + clauses_length cs → (w ≡ lay_clauses table 0 cs p w₀) × (at ≡ p + clauses_length cs)
       go cs [] c e f = (e, omega arith)
       go cs (u ∷ us) c e f = absurd (omega arith)
-
-  pub clauses_long : length w ≡ length w₀
-  clauses_long = G.long

@@ -1,10 +1,6 @@
+use Rattle.std.proofs.Common.{arith, length-take, length-drop}
 use Rattle.tables.proofs.clear_predicates.Goals as goal
-use Rattle.tables.proofs.Linking.{clear_again, clear_start}
+use Rattle.tables.proofs.Linking.{filled}
 
--- src/lib.rt:149:5
-pub loop-i-init : goal.loop-i-init
-loop-i-init c = search clear_start
-
--- src/lib.rt:149:5
-pub loop-i-preserved : goal.loop-i-preserved
-loop-i-preserved c = search clear_again
+pub returns : goal.returns
+returns c = filled _ _ _ _ _ _ c.requires (omega arith) (simp (length-take, length-drop) (omega arith)) (c.fill.ensures.after (λ y e. e))

@@ -3,6 +3,3 @@ use Rattle.tables.proofs.Linking.{Linking}
 
 abbrev pub invariant-loop-k : goal.invariant-loop-k
 invariant-loop-k l = Linking l.first l.table l.n l.initial.w l.k l.w
-
-abbrev pub decreases-loop-k : goal.decreases-loop-k
-decreases-loop-k l = l.k

@@ -1,5 +1,5 @@
 use Rattle.std.proofs.Common.{◌+◌, ◌*◌}
-use Rattle.tables.proofs.+lay_arguments_lay_term_lay_terms.Given as goal
+use Rattle.tables.proofs.+terms.Given as goal
 use Rattle.tables.proofs.Walks.{GoingTerms}
 
 abbrev pub decreases-lay_arguments : goal.decreases-lay_arguments
@@ -11,8 +11,5 @@ decreases-lay_term l = 3 * l.levels
 abbrev pub decreases-lay_terms : goal.decreases-lay_terms
 decreases-lay_terms l = 3 * l.levels + 1
 
-abbrev pub invariant-lay_terms-loop-left : goal.invariant-lay_terms-loop-left
-invariant-lay_terms-loop-left l = GoingTerms l.file l.initial.w l.p l.n l.levels l.left l.at l.w
-
-abbrev pub decreases-lay_terms-loop-left : goal.decreases-lay_terms-loop-left
-decreases-lay_terms-loop-left l = l.left
+abbrev pub invariant-lay_terms-loop : goal.invariant-lay_terms-loop
+invariant-lay_terms-loop l = GoingTerms l.file l.initial.w l.p l.n l.levels l.counter l.at l.w
