@@ -1,5 +1,6 @@
 mod StepLaws
 mod TermLaws
+mod EachLaws
 mod ClauseLaws
 mod ItemLaws
 mod RowLaws

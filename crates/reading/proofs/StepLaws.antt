@@ -1,53 +1,55 @@
 -- One reader after another, and one record: where the code's steps come to.
 -- Assumes nothing.
-use Prim.Native.Nat.{ℕ, zero, suc, ◌+◌, ◌-◌, ◌*◌, ◌≤◌, ◌<◌}
-use mathlib.Core.Path.{◌≡◌, refl, sym, ap, ap₂, ◌∙◌}
+use Prim.Native.Nat.{ℕ, zero, suc, ◌+◌, ◌≤◌, ◌<◌}
+use mathlib.Core.Path.{◌≡◌, refl, sym, ap, ◌∙◌}
 use mathlib.Core.Bool.{Bool, true, false, ◌||◌, not}
 use mathlib.Core.List.{List, [], ◌∷◌}
 use native.Mathlib.Omega.{arith}
 use lib.Dec.{leb, ltb, eqb}
 use lib.ListN.{length, get_or}
-use borrow.Author.Tests.{lt-ltb, le-ltb, le-leb, lt-leb, eq-eqb, ne_eqb, leb-true, leb-false, ltb-true, ltb-false}
+use borrow.Author.Tests.{lt-ltb, le-ltb, le-leb, lt-leb, leb-true, leb-false, ltb-true, ltb-false, eqb-true}
+use Rattle.std.specs.Prelude.{Result, Ok, Err}
+use Rattle.std.specs.Result.{IsErrAnd}
+use Rattle.std.proofs.lemmas.Result.{err_from_is_err_and}
 use Rattle.meaning.specs.Kinds.{body_length}
-use Rattle.meaning.specs.Reading.{Read, refused, read, Reader, after, byte, two_bytes, next}
-use Rattle.meaning.specs.declared.Place.{Place}
-use Rattle.reading.specs.Verdict.{place}
-use Rattle.reading.specs.Steps.{step, any, either, only}
-use Rattle.reading.specs.declared.step.Step.{Step}
-use Rattle.reading.specs.declared.step.Step.TheVariants.{Refused, Next}
+use Rattle.meaning.specs.Reading.{Read, refused, read, Reader, after, byte, next}
+use Rattle.meaning.specs.declared.Refusal.{Refusal}
+use Rattle.reading.specs.Steps.{step, either, only}
+use Rattle.reading.specs.declared.step.Reached.{Reached}
 use Rattle.laws.specs.IfLaws.{if_true, if_false}
 
 -- ---- readers
+-- what a reader of the code answers
+abbrev pub Step : Type 0
+Step = Result Reached Refusal
+
+-- what a `?` passes on
+pub passed_on : {A : Type 0} {x y : Result A Refusal} {e : Refusal} → IsErrAnd y (λ z. z ≡ e) → Err e ≡ x → y ≡ x
+passed_on {y} h g = let p = err_from_is_err_and y h in p.1 ∙ ap Err p.2 ∙ g
+
 -- where a step comes to, there the reader does
-pub came_refused : {A : Type 0} (r : Read A) {n : ℕ} {q : Place} → step r ≡ Refused n q → r ≡ refused n q.0
-unfolding step
-came_refused (refused m p) {n} {q} e =
-    let a : m ≡ n = cc in
-    let b : place p ≡ q = cc in
-    ap₂ refused a (ap (λ (x : Place). x.0) b)
-came_refused (read a s t) e = absurd (let z : ◌≡◌ {A = ℕ} 0 1 = cc in omega arith)
-
-pub record Came {A : Type 0} (r : Read A) (s e : ℕ) : Type 0 where
+pub record Came {A : Type 0} (r : Read A) (t : Reached) : Type 0 where
   pub value : A
-  pub same : r ≡ read value s e
+  pub same : r ≡ read value t.seen t.at
 
-pub came_next : {A : Type 0} (r : Read A) {s e : ℕ} → step r ≡ Next s e → Came r s e
+pub came : {A : Type 0} (r : Read A) {t : Reached} → Ok t ≡ step r → Came r t
 unfolding step
-came_next (refused n p) e = absurd (let z : ◌≡◌ {A = ℕ} 0 1 = cc in omega arith)
-came_next (read a s t) e = record { value = a; same = cc }
+came (refused n p) e = cc
+came (read a s i) {t} e =
+    let k : ◌≡◌ {A = Reached} (record { seen = s; at = i }) t = cc in
+    record { value = a; same = ap (λ (t : Reached). read a t.seen t.at) k }
 
-pub after_refused : {A B : Type 0} (r : Read A) (f : A → Reader B) {n : ℕ} {q : Place} → step r ≡ Refused n q → step (after r f) ≡ Refused n q
+pub after_refused : {A B : Type 0} (r : Read A) (f : A → Reader B) {e : Refusal} → Err e ≡ step r → Err e ≡ step (after r f)
 unfolding step after
 after_refused (refused n p) f e = e
-after_refused (read a s t) f e = absurd (let z : ◌≡◌ {A = ℕ} 0 1 = cc in omega arith)
+after_refused (read a s i) f e = cc
 
-pub after_next : {A B : Type 0} (r : Read A) (f : A → Reader B) {s e : ℕ} {y : Step} → step r ≡ Next s e → ((a : A) → step (f a s e) ≡ y) → step (after r f) ≡ y
+pub after_next : {A B : Type 0} (r : Read A) (f : A → Reader B) {t : Reached} {y : Step} → Ok t ≡ step r → ((a : A) → y ≡ step (f a t.seen t.at)) → y ≡ step (after r f)
 unfolding step after
-after_next (refused n p) f e k = absurd (let z : ◌≡◌ {A = ℕ} 0 1 = cc in omega arith)
-after_next (read a s' e') f {s} {e} h k =
-    let p : s' ≡ s = cc in
-    let q : e' ≡ e = cc in
-    ap₂ (λ (x y : ℕ). step (f a x y)) p q ∙ k a
+after_next (refused n p) f e k = cc
+after_next (read a s i) f {t} e k =
+    let p : ◌≡◌ {A = Reached} t (record { seen = s; at = i }) = cc in
+    k a ∙ ap (λ (t : Reached). step (f a t.seen t.at)) p
 
 -- a value that is only made over
 pub after_give : {A B : Type 0} (r : Read A) (f : A → B) → step (after r (λ a s e. read (f a) s e)) ≡ step r
@@ -61,16 +63,7 @@ unfolding step after
 after_same (refused n p) f g h = refl
 after_same (read a s e) f g h = h a s e
 
--- ---- numbers in the file
-pub byte_at : (file : List ℕ) (at r : ℕ) → r ≡ get_or file at 0 → r ≡ byte file at
-unfolding byte
-byte_at file at r e = e
-
-pub two_bytes_at : (file : List ℕ) (at a b : ℕ) → a ≡ byte file at → b ≡ byte file (at + 1) → 256 * a + b ≡ two_bytes file at
-unfolding two_bytes
-two_bytes_at file at a b p q = ap₂ (λ (x y : ℕ). 256 * x + y) p q
-
--- past its end the file has no kind
+-- ---- past its end the file has no kind
 get_or_past : (l : List ℕ) (i : ℕ) → length l ≤ i → get_or l i 0 ≡ 0
 get_or_past [] i h = refl
 get_or_past (a ∷ l) zero h = absurd (omega arith)
@@ -79,15 +72,6 @@ get_or_past (a ∷ l) (suc i) h = get_or_past l i (omega arith)
 pub byte_past : (file : List ℕ) (at : ℕ) → length file ≤ at → byte file at ≡ 0
 unfolding byte
 byte_past = get_or_past
-
-module _ (file : List ℕ) (kind at : ℕ) where
-  pub stands_past : 0 < kind → length file ≤ at → false ≡ eqb (byte file at) kind
-  unfolding byte
-  stands_past k h = let e : get_or file at 0 ≡ 0 = get_or_past file at h in sym (ne_eqb _ _ (λ (z : get_or file at 0 ≡ kind). omega arith))
-
-  pub stands_here : (k : ℕ) → k ≡ get_or file at 0 → eqb k kind ≡ eqb (byte file at) kind
-  unfolding byte
-  stands_here k e = rw e
 
 -- ---- one record
 module _ (file : List ℕ) (due : ℕ → Bool) (at : ℕ) where
@@ -160,52 +144,27 @@ pub next_due : (file : List ℕ) (due due' : ℕ → Bool) (seen at : ℕ) → d
 unfolding next
 next_due file due due' seen at e = rw e
 
-module _ (file : List ℕ) (due : ℕ → Bool) (seen at : ℕ) (x : Step) (h : x ≡ step (next file due seen at)) where
-  pub next_found : {s e : ℕ} → x ≡ Next s e → (s ≡ seen) × Found file due at e
+-- the record is good: with what has appeared, its place and the place after it reading goes on
+module _ (file : List ℕ) (due : ℕ → Bool) (seen at : ℕ) {t : Reached} (h : Ok t ≡ step (next file due seen at)) where
+  pub next_found : (t.seen ≡ seen) × Found file due at t.at
   unfolding step
-  next_found {s} {e} g = go (look file due at)
+  next_found = go (look file due at)
     where
-      go : Looked file due at → (s ≡ seen) × Found file due at e
-      go (lost l) = let k = sym g ∙ h ∙ ap step (l.gives seen) in absurd (let z : ◌≡◌ {A = ℕ} 0 1 = cc in omega arith)
-      go (found e' f) =
-          let k : Next s e ≡ Next seen e' = sym g ∙ h ∙ ap step (f.gives seen) in
-          let p : s ≡ seen = cc in
-          let q : e' ≡ e = cc in
-          (p, rw q at f)
+      go : Looked file due at → (t.seen ≡ seen) × Found file due at t.at
+      go (lost l) = let k = h ∙ ap step (l.gives seen) in cc
+      go (found e f) =
+          let k : ◌≡◌ {A = Step} (Ok t) (Ok (record { seen = seen; at = e })) = h ∙ ap step (f.gives seen) in
+          let p : ◌≡◌ {A = Reached} t (record { seen = seen; at = e }) = cc in
+          let q : e ≡ t.at = sym (ap (λ (t : Reached). t.at) p) in
+          (ap (λ (t : Reached). t.seen) p, rw q at f)
 
--- ---- the code's record
-pub kind_here : (file : List ℕ) (at kind : ℕ) → get_or file at 0 ≡ kind → kind ≡ byte file at
-unfolding byte
-kind_here file at kind e = sym e
+  pub next_then : {A : Type 0} (f : ℕ → Reader A) → after (next file due seen at) f ≡ f at t.seen t.at
+  unfolding after
+  next_then f = let (s, n) = next_found in rw (n.gives seen, s)
 
-module _ (file : List ℕ) (seen at : ℕ) (h : at < length file) (kind : ℕ) (k : kind ≡ byte file at) (body : ℕ) (b : body ≡ body_length kind) where
-  pub whole_short : length file - at ≤ body → Refused 4 (place at) ≡ step (next file any seen at)
-  unfolding step any
-  whole_short s = let l = ap body_length k in sym (ap step (next_short file any at seen h refl (omega arith)))
+  -- so its body is in the file
+  pub body_inside : (kind : ℕ) → byte file at ≡ kind → at + body_length kind < length file
+  body_inside kind k = let f = next_found.1 in let b = ap body_length k in omega (arith, f.end, f.inside)
 
-  pub whole_good : body < length file - at → Next seen (at + 1 + body) ≡ step (next file any seen at)
-  unfolding step any
-  whole_good s =
-      let l = ap body_length k in
-      ap (λ (m : ℕ). Next seen (at + 1 + m)) (b ∙ l) ∙ sym (ap step (next_good file any at seen h refl (omega arith)))
-
-module _ (file : List ℕ) (one other seen at : ℕ) where
-  abbrev the_record : Step
-  the_record = step (next file (either one other) seen at)
-
-  pub code_missing : length file ≤ at → Refused 4 (place at) ≡ the_record
-  unfolding step
-  code_missing h = sym (ap step (next_missing file _ at seen h))
-
-  module _ (x : Step) (w : x ≡ step (next file any seen at)) where
-    pub code_one : get_or file at 0 ≡ one → x ≡ the_record
-    unfolding any either byte
-    code_one e = w ∙ ap step (next_due file any (either one other) seen at (rw (eq-eqb (get_or file at 0) one e)))
-
-    pub code_two : (get_or file at 0 ≡ one → ⊥) → get_or file at 0 ≡ other → x ≡ the_record
-    unfolding any either byte
-    code_two n e = w ∙ ap step (next_due file any (either one other) seen at (rw (ne_eqb (get_or file at 0) one n, eq-eqb (get_or file at 0) other e)))
-
-  pub code_other : at < length file → (get_or file at 0 ≡ one → ⊥) → (get_or file at 0 ≡ other → ⊥) → Refused 5 (place at) ≡ the_record
-  unfolding either byte step
-  code_other h n m = sym (ap step (next_other file _ at seen h (rw (ne_eqb (get_or file at 0) one n, ne_eqb (get_or file at 0) other m))))
+pub only_inside : (file : List ℕ) (kind seen at : ℕ) {t : Reached} → Ok t ≡ step (next file (only kind) seen at) → at + body_length kind < length file
+only_inside file kind seen at h = body_inside file _ seen at h kind (eqb-true _ _ (sym (only_eqb kind (byte file at)) ∙ (next_found file _ seen at h).1.kind))

@@ -1,10 +1,8 @@
 -- The arities of functions and predicates stand in the file by number: records of two bytes, one after another.
 -- Assumes nothing.
-use Rattle.std.specs.Prelude.{ℕ, zero, suc, ◌+◌, ◌*◌, List, [], ◌∷◌, ◌++◌, ltb, length, get_or}
+use Rattle.std.specs.Prelude.{ℕ, zero, suc, ◌+◌, ◌*◌, List, [], ◌∷◌, ◌++◌, ltb, length, get_or, Option, Some, None}
 use Rattle.meaning.specs.If.{when◌then◌else◌}
 use Rattle.meaning.specs.Reading.{byte, two_bytes}
-use Rattle.reading.specs.declared.term.Arity.{Arity}
-use Rattle.reading.specs.declared.term.Arity.TheVariants.{Unknown, Of}
 
 -- those of the first n records from the place `start` on
 unfoldable pub arities : List ℕ → ℕ → ℕ → List ℕ
@@ -23,7 +21,7 @@ abbrev pub over : {A : Type 0} → (List ℕ → List ℕ → List ℕ → A) �
 over reader file functions predicates = reader file (functions_of file functions) (predicates_of file functions predicates)
 
 -- the arity for the number in the record at p
-unfoldable pub arity : List ℕ → List ℕ → ℕ → Arity
+unfoldable pub arity : List ℕ → List ℕ → ℕ → Option ℕ
 arity file known p =
     let number : ℕ = two_bytes file (p + 1) in
-    when ltb number (length known) then Of (get_or known number 0) else Unknown
+    when ltb number (length known) then Some (get_or known number 0) else None

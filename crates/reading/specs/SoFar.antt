@@ -1,14 +1,13 @@
 -- What was read so far at the top level: going on from here gives the file's verdict.
 -- Assumes nothing.
-use Rattle.std.specs.Prelude.{ℕ, ◌+◌, ◌*◌, ◌≤◌, ◌<◌, ◌≡◌, List, length}
-use Rattle.meaning.specs.Kinds.{a_function, a_predicate, a_clause, function_limit, predicate_limit, clause_limit, todays_limits}
+use Rattle.std.specs.Prelude.{ℕ, ◌+◌, ◌*◌, ◌≤◌, ◌<◌, ◌≡◌, List, length, Result, Ok, Err}
+use Rattle.meaning.specs.Kinds.{a_function, a_predicate, function_limit, predicate_limit, clause_limit, todays_limits}
 use Rattle.meaning.specs.Rules.{Clause}
 use Rattle.meaning.specs.Reading.{byte, items, parse}
 use Rattle.reading.specs.Verdict.{verdict}
 use Rattle.reading.specs.Arities.{functions_of, predicates_of}
+use Rattle.meaning.specs.declared.Refusal.{Refusal}
 use Rattle.reading.specs.declared.row.Row.{Row}
-use Rattle.reading.specs.declared.row.Row.TheVariants.{Refused, Of}
-use Rattle.reading.specs.declared.Checked.TheVariants.{Refused as RefusedFor}
 
 -- So many functions, predicates and clauses are read, and `at` is the next place. No kind before `kind` can be due here.
 pub record SoFar (file : List ℕ) (kind functions predicates clauses at : ℕ) : Type 0 where
@@ -34,14 +33,7 @@ pub data Counted (file : List ℕ) : ℕ → ℕ → ℕ → ℕ → ℕ → Typ
   of_predicates : {functions n at : ℕ} → functions ≤ function_limit → Pairs file predicate_limit (2 * functions) n at → SoFar file a_predicate functions n 0 at
       → Counted file a_predicate predicate_limit functions n at
 
--- all functions and predicates are read
-pub record Declared (file : List ℕ) (functions predicates at : ℕ) : Type 0 where
-  pub few_functions : functions ≤ function_limit
-  pub few_predicates : predicates ≤ predicate_limit
-  pub inside : 2 * functions + 2 * predicates ≤ length file
-  pub so_far : SoFar file a_clause functions predicates 0 at
-
 -- a row of records of one kind: a refusal is the file's; else so many are read, and no more of them stands here
-abbrev pub Rowed : (file : List ℕ) (kind : ℕ) (P : ℕ → ℕ → Type 0) → Row → Type 0
-Rowed file kind P (Refused n p) = RefusedFor n p ≡ verdict (parse file)
-Rowed file kind P (Of n at) = P n at × (byte file at ≡ kind → ⊥)
+abbrev pub Rowed : (file : List ℕ) (kind : ℕ) (P : ℕ → ℕ → Type 0) → Result Row Refusal → Type 0
+Rowed file kind P (Err e) = Err e ≡ verdict (parse file)
+Rowed file kind P (Ok row) = P row.records row.at × (byte file row.at ≡ kind → ⊥)

@@ -1,18 +1,18 @@
 -- What the readers of the code answer: the definition's readers, without the value that was read.
 -- Assumes nothing.
-use Rattle.std.specs.Prelude.{ℕ, ◌+◌, Bool, true, ◌&&◌, ◌||◌, List, leb, ltb, eqb}
+use Rattle.std.specs.Prelude.{ℕ, ◌+◌, Bool, true, ◌&&◌, ◌||◌, List, leb, ltb, eqb, Result, Ok, Err}
 use Rattle.meaning.specs.Kinds.{a_clause, a_query, arity_limit, clause_limit, variable_limit, goal_limit, todays_limits}
 use Rattle.meaning.specs.Rules.{Goal, Clause, Rules}
 use Rattle.meaning.specs.Reading.{Read, refused, read, Reader, ◌>>=◌, ◌>>◌, give, need, goals, all_seen, end_due}
 use Rattle.meaning.specs.Reading.{byte, next, goal, clause, query, no_more}
-use Rattle.reading.specs.Verdict.{place}
-use Rattle.reading.specs.declared.step.Step.{Step}
-use Rattle.reading.specs.declared.step.Step.TheVariants.{Refused, Next}
+use Rattle.meaning.specs.declared.Refusal.{Refusal}
+use Rattle.reading.specs.Verdict.{refusal}
+use Rattle.reading.specs.declared.step.Reached.{Reached}
 
 -- a refusal, or the variables that have appeared and the next place
-unfoldable pub step : {A : Type 0} → Read A → Step
-step (refused n p) = Refused n (place p)
-step (read a seen at) = Next seen at
+unfoldable pub step : {A : Type 0} → Read A → Result Reached Refusal
+step (refused n p) = Err (refusal n p)
+step (read a seen at) = Ok (record { seen = seen; at = at })
 
 -- any kind is due, one of two, or one
 unfoldable pub any : ℕ → Bool

@@ -1,186 +1,130 @@
 // Goals, clauses and the query.
-ghost use Rattle.std.specs.Prelude.{◌≡◌, ◌+◌, ◌*◌, ◌≤◌, ◌<◌, length, []};
+ghost use Rattle.std.specs.Prelude.{◌≡◌, ◌+◌, ◌<◌, [], length};
 ghost use Rattle.meaning.specs.Reading as definition;
 ghost use Rattle.reading.specs.Arities.{over};
 ghost use Rattle.reading.specs.Steps.{step, in_range};
 ghost use Rattle.reading.specs.Steps as steps;
 
-use crate::step::{Step, byte, next};
-use crate::term::{Arity, arity_at, terms};
-use meaning::Place;
-use records::{
-    CLAUSE, CLAUSE_LIMIT, CUT, END, GOAL, GOAL_LIMIT, LEVEL_LIMIT, QUERY, VARIABLE_LIMIT,
-};
+use crate::names::{Names, Scope};
+use crate::step::{Reached, byte, next, stands};
+use crate::term::each;
+use meaning::{Fault, Refusal};
+use records::{CLAUSE_LIMIT, GOAL_LIMIT, Kind, LEVEL_LIMIT, VARIABLE_LIMIT};
 
-// A goal: a predicate with its arguments, or a cut.
-fn goal(
-    file: &[u8],
-    functions: usize,
-    predicates: usize,
-    declared: usize,
-    seen: usize,
-    at: usize,
-) -> Step
-    requires { 2 * functions + 2 * predicates ≤ length file.now }
-    ensures { result ≡ step (over definition.goal file.now functions predicates declared seen at) }
-{
-    match next(file, GOAL, CUT, seen, at) {
-        Step::Refused(n, p) => Step::Refused(n, p),
-        Step::Next(_, end) => {
-            if file[at] == CUT {
-                return Step::Next(seen, end);
-            }
-            match arity_at(file, 2 * functions, predicates, at) {
-                Arity::Unknown => Step::Refused(6, Place(at)),
-                Arity::Of(n) => terms(file, functions, declared, LEVEL_LIMIT, n, seen, end),
-            }
+impl Scope<'_> {
+    // A goal: a predicate with its arguments, or a cut.
+    fn goal(&self, from: Reached) -> Result<Reached, Refusal>
+        ensures { result
+            ≡ step (over definition.goal self.now.names.now.file.now self.now.names.now.functions self.now.names.now.predicates self.now.declared from.seen from.at) }
+    {
+        let at = from.at;
+        let after = next(self.names.file, Kind::Goal, Kind::Cut, from)?;
+        if stands(self.names.file, Kind::Cut, at) {
+            return Ok(after);
         }
+        let arity = self.names.predicate_arity(at).ok_or(Fault::Number.at(at))?;
+        self.terms(LEVEL_LIMIT, arity, after)
     }
-}
 
-// So many goals, one after another.
-fn goals(
-    file: &[u8],
-    functions: usize,
-    predicates: usize,
-    declared: usize,
-    n: usize,
-    seen: usize,
-    at: usize,
-) -> Step
-    requires { 2 * functions + 2 * predicates ≤ length file.now }
-    ensures { result ≡ step (definition.goals (over definition.goal file.now functions predicates declared) n seen at) }
-{
-    let mut left = n;
-    let mut appeared = seen;
-    let mut here = at;
-    while 0 < left {
-        match goal(file, functions, predicates, declared, appeared, here) {
-            Step::Refused(k, p) => {
-                return Step::Refused(k, p);
-            }
-            Step::Next(s, end) => {
-                appeared = s;
-                here = end;
-            }
-        }
-        left -= 1;
+    fn goals(&self, n: usize, from: Reached) -> Result<Reached, Refusal>
+        ensures { result
+            ≡ step (definition.goals (over definition.goal self.now.names.now.file.now self.now.names.now.functions self.now.names.now.predicates self.now.declared) n from.seen from.at) }
+    {
+        each(n, from, |here| self.goal(here))
     }
-    Step::Next(appeared, here)
-}
 
-// The goals of the clause or query whose record stands at p. Then all its variables have appeared (7).
-fn body(
-    file: &[u8],
-    functions: usize,
-    predicates: usize,
-    declared: usize,
-    n: usize,
-    p: usize,
-    seen: usize,
-    at: usize,
-) -> Step
-    requires { 2 * functions + 2 * predicates ≤ length file.now }
-    ensures { result ≡ step (over steps.body file.now functions predicates declared n p seen at) }
-{
-    match goals(file, functions, predicates, declared, n, seen, at) {
-        Step::Refused(k, q) => Step::Refused(k, q),
-        Step::Next(s, end) => {
-            if s != declared {
-                return Step::Refused(7, Place(p));
-            }
-            Step::Next(s, end)
+    // The goals of the clause or query whose record stands at p. Then all its variables have appeared (7).
+    fn body(&self, n: usize, p: usize, from: Reached) -> Result<Reached, Refusal>
+        ensures { result
+            ≡ step (over steps.body self.now.names.now.file.now self.now.names.now.functions self.now.names.now.predicates self.now.declared n p from.seen from.at) }
+    {
+        let reached = self.goals(n, from)?;
+        if reached.seen != self.declared {
+            return Err(Fault::Variable.at(p));
         }
+        Ok(reached)
     }
 }
 
 // "0 to 64 variables and 0 to 16 goals in a clause or query."
-#[tactic(auto, using(crate::proofs::ClauseLaws::range_over, crate::proofs::ClauseLaws::range_goals))]
+#[tactic(auto, unfolding(crate::specs::Steps::in_range))]
 fn in_range(variables: usize, n: usize) -> bool
     ensures { result ≡ in_range variables n }
 {
-    if VARIABLE_LIMIT < variables {
-        return false;
-    }
-    n <= GOAL_LIMIT
+    variables <= VARIABLE_LIMIT && n <= GOAL_LIMIT
 }
 
-// The clause whose record stands at p: its numbers (6), head arguments, goals.
-fn numbered(file: &[u8], functions: usize, predicates: usize, p: usize, at: usize) -> Step
-    requires p_in_bounds { p + 4 < length file.now }
-    requires predicates_in_bounds { 2 * functions + 2 * predicates ≤ length file.now }
-    ensures { result ≡ step (over steps.numbered file.now functions predicates p 0 at) }
-{
-    let declared = byte(file, p + 3);
-    let n = byte(file, p + 4);
-    if !in_range(declared, n) {
-        return Step::Refused(6, Place(p));
-    }
-    match arity_at(file, 2 * functions, predicates, p) {
-        Arity::Unknown => Step::Refused(6, Place(p)),
-        Arity::Of(m) => match terms(file, functions, declared, LEVEL_LIMIT, m, 0, at) {
-            Step::Refused(k, q) => Step::Refused(k, q),
-            Step::Next(seen, end) => body(file, functions, predicates, declared, n, p, seen, end),
-        },
-    }
-}
-
-// A clause, after so many: "one record too many of a kind" (6).
-pub fn clause(file: &[u8], functions: usize, predicates: usize, before: usize, at: usize) -> Step
-    requires { 2 * functions + 2 * predicates ≤ length file.now }
-    ensures { result ≡ step (over steps.clause_after file.now functions predicates before 0 at) }
-{
-    match next(file, CLAUSE, CLAUSE, 0, at) {
-        Step::Refused(n, p) => Step::Refused(n, p),
-        Step::Next(_, end) => {
-            let too_many = CLAUSE_LIMIT <= before;
-            if too_many {
-                return Step::Refused(6, Place(at));
-            }
-            numbered(file, functions, predicates, at, end)
+impl Names<'_> {
+    // The clause whose record stands at p: its numbers (6), head arguments, goals.
+    fn numbered(&self, p: usize, at: usize) -> Result<Reached, Refusal>
+        requires { p + 4 < length self.now.file.now }
+        ensures { result ≡ step (over steps.numbered self.now.file.now self.now.functions self.now.predicates p 0 at) }
+    {
+        let declared = byte(self.file, p + 3);
+        let n = byte(self.file, p + 4);
+        if !in_range(declared, n) {
+            return Err(Fault::Number.at(p));
         }
+        let arity = self.predicate_arity(p).ok_or(Fault::Number.at(p))?;
+        let scope = Scope {
+            names: self,
+            declared,
+        };
+        let head = scope.terms(LEVEL_LIMIT, arity, Reached { seen: 0, at })?;
+        scope.body(n, p, head)
     }
-}
 
-// The query whose record stands at p: its numbers (6), its goals.
-fn asked(file: &[u8], functions: usize, predicates: usize, p: usize, at: usize) -> Step
-    requires p_in_bounds { p + 2 < length file.now }
-    requires predicates_in_bounds { 2 * functions + 2 * predicates ≤ length file.now }
-    ensures { result ≡ step (over steps.asked file.now functions predicates [] p 0 at) }
-{
-    let declared = byte(file, p + 1);
-    let n = byte(file, p + 2);
-    if !in_range(declared, n) {
-        return Step::Refused(6, Place(p));
+    // A clause, after so many: "one record too many of a kind" (6).
+    pub fn clause(&self, before: usize, at: usize) -> Result<Reached, Refusal>
+        ensures { result ≡ step (over steps.clause_after self.now.file.now self.now.functions self.now.predicates before 0 at) }
+    {
+        let after = next(
+            self.file,
+            Kind::Clause,
+            Kind::Clause,
+            Reached { seen: 0, at },
+        )?;
+        let too_many = CLAUSE_LIMIT <= before;
+        if too_many {
+            return Err(Fault::Number.at(at));
+        }
+        self.numbered(at, after.at)
     }
-    body(file, functions, predicates, declared, n, p, 0, at)
+
+    // The query whose record stands at p: its numbers (6), its goals.
+    fn asked(&self, p: usize, at: usize) -> Result<Reached, Refusal>
+        requires { p + 2 < length self.now.file.now }
+        ensures { result ≡ step (over steps.asked self.now.file.now self.now.functions self.now.predicates [] p 0 at) }
+    {
+        let declared = byte(self.file, p + 1);
+        let n = byte(self.file, p + 2);
+        if !in_range(declared, n) {
+            return Err(Fault::Number.at(p));
+        }
+        let scope = Scope {
+            names: self,
+            declared,
+        };
+        scope.body(n, p, Reached { seen: 0, at })
+    }
+
+    // The query, where only it may stand, and the end of the file.
+    pub fn query(&self, at: usize) -> Result<Reached, Refusal>
+        ensures { result ≡ step (over steps.last self.now.file.now self.now.functions self.now.predicates [] 0 at) }
+    {
+        let after = next(self.file, Kind::Query, Kind::Query, Reached { seen: 0, at })?;
+        let asked = self.asked(at, after.at)?;
+        ending(self.file, asked)
+    }
 }
 
 // The end record, and nothing after it (9).
-fn ending(file: &[u8], seen: usize, at: usize) -> Step
-    ensures { result ≡ step (steps.ending file.now seen at) }
+fn ending(file: &[u8], from: Reached) -> Result<Reached, Refusal>
+    ensures { result ≡ step (steps.ending file.now from.seen from.at) }
 {
-    match next(file, END, END, seen, at) {
-        Step::Refused(n, p) => Step::Refused(n, p),
-        Step::Next(s, end) => {
-            if end != file.len() {
-                return Step::Refused(9, Place(end));
-            }
-            Step::Next(s, end)
-        }
+    let after = next(file, Kind::End, Kind::End, from)?;
+    if after.at != file.len() {
+        return Err(Fault::AfterEnd.at(after.at));
     }
-}
-
-// The query, where only it may stand, and the end of the file.
-pub fn query(file: &[u8], functions: usize, predicates: usize, at: usize) -> Step
-    requires { 2 * functions + 2 * predicates ≤ length file.now }
-    ensures { result ≡ step (over steps.last file.now functions predicates [] 0 at) }
-{
-    match next(file, QUERY, QUERY, 0, at) {
-        Step::Refused(n, p) => Step::Refused(n, p),
-        Step::Next(_, first) => match asked(file, functions, predicates, at, first) {
-            Step::Refused(n, p) => Step::Refused(n, p),
-            Step::Next(seen, end) => ending(file, seen, end),
-        },
-    }
+    Ok(after)
 }

@@ -1,89 +1,77 @@
 // Rows of records of one kind: the functions, the predicates, the clauses.
-ghost use Rattle.std.specs.Prelude.{◌≡◌, ◌+◌, ◌*◌, ◌≤◌, ◌<◌, length, ◌&&◌, leb, ltb};
-ghost use Rattle.meaning.specs.Kinds.{body_length, a_clause, arity_limit};
-ghost use Rattle.meaning.specs.Reading as definition;
+ghost use Rattle.std.specs.Prelude.{◌≡◌, ◌<◌, Ok};
+ghost use Rattle.meaning.specs.Kinds.{a_clause, body_length};
+ghost use Rattle.reading.specs.Each.{RowOf};
 ghost use Rattle.reading.specs.SoFar.{SoFar, Counted, Rowed};
 ghost use Rattle.reading.specs.Steps.{step};
+ghost use Rattle.records.specs.Numbers.{number};
 ghost use Rattle.reading.specs.Steps as steps;
+ghost use Rattle.reading.specs.declared.step.Reached.{Reached};
 
-use crate::clause::clause;
-use crate::step::{Step, byte, next, stands};
-use meaning::Place;
-use records::{ARITY_LIMIT, CLAUSE};
+use crate::names::Names;
+use crate::step::{Reached, byte, next, stands};
+use meaning::{Fault, Refusal};
+use records::{ARITY_LIMIT, Kind};
 
-// A refusal, or how many records there are and the place after them.
-#[derive(Clone, Copy)]
-pub enum Row {
-    Refused(u32, Place),
-    Of(usize, usize),
+// So many records of one kind, and the place after them.
+#[derive(Clone, Copy, PartialEq, Eq)]
+pub struct Row {
+    pub records: usize,
+    pub at: usize,
 }
 
-// Whether one more is allowed after so many, and with the arity in its record at p.
-fn allowed(file: &[u8], limit: usize, before: usize, p: usize) -> bool
-    requires { p + 1 < length file.now }
-    ensures { result ≡ (ltb before limit && leb (definition.byte file.now (p + 1)) arity_limit) }
+// The records of one kind from a place on, each read after those before it.
+fn read_row<F: Fn(Row) -> Result<Reached, Refusal>>(
+    file: &[u8],
+    kind: Kind,
+    start: usize,
+    one: F,
+) -> Result<Row, Refusal>
+    requires callable { F.IsAlwaysCallable one }
+    requires onward { (before : Row) (t : Reached) → F.post one before (Ok t) → before.at < t.at }
+    ensures { RowOf (F.post one) file.now (number kind) (record { records = 0; at = start }) result }
 {
-    if limit <= before {
-        return false;
+    let mut records = 0;
+    let mut at = start;
+    // Kept: how many there are is known only at the end, so a `for` over a range would need an end that is never reached, and a break.
+    while stands(file, kind, at) {
+        at = one(Row { records, at })?.at;
+        records += 1;
     }
-    byte(file, p + 1) <= ARITY_LIMIT
+    Ok(Row { records, at })
 }
 
 // A function or a predicate, after so many: its arity, and one record too many of a kind (6).
-fn declared(file: &[u8], kind: u8, limit: usize, before: usize, at: usize) -> Step
-    requires { body_length kind ≡ 1 }
-    ensures { result ≡ step (steps.declared file.now kind limit before 0 at) }
+fn declared(file: &[u8], kind: Kind, limit: usize, before: Row) -> Result<Reached, Refusal>
+    requires { body_length (number kind) ≡ 1 }
+    ensures { result ≡ step (steps.declared file.now (number kind) limit before.records 0 before.at) }
 {
-    match next(file, kind, kind, 0, at) {
-        Step::Refused(n, p) => Step::Refused(n, p),
-        Step::Next(seen, end) => {
-            if !allowed(file, limit, before, at) {
-                return Step::Refused(6, Place(at));
-            }
-            Step::Next(seen, end)
-        }
+    let at = before.at;
+    let after = next(file, kind, kind, Reached { seen: 0, at })?;
+    if limit <= before.records || ARITY_LIMIT < byte(file, at + 1) {
+        return Err(Fault::Number.at(at));
     }
+    Ok(after)
 }
 
 // The functions, or the predicates after so many functions.
-pub fn arities(file: &[u8], kind: u8, limit: usize, functions: usize, start: usize) -> Row
-    requires { Counted file.now kind limit functions 0 start }
-    ensures { Rowed file.now kind (Counted file.now kind limit functions) result }
+pub fn arities(file: &[u8], kind: Kind, limit: usize, functions: Row) -> Result<Row, Refusal>
+    requires { Counted file.now (number kind) limit functions.records 0 functions.at }
+    ensures { Rowed file.now (number kind) (Counted file.now (number kind) limit functions.records) result }
 {
-    let mut n: usize = 0;
-    let mut at = start;
-    while stands(file, kind, at) {
-        match declared(file, kind, limit, n, at) {
-            Step::Refused(k, p) => {
-                return Row::Refused(k, p);
-            }
-            Step::Next(_, end) => {
-                at = end;
-            }
-        }
-        n += 1;
-    }
-    Row::Of(n, at)
+    read_row(file, kind, functions.at, |before| {
+        declared(file, kind, limit, before)
+    })
 }
 
-// The clauses.
-pub fn clauses(file: &[u8], functions: usize, predicates: usize, start: usize) -> Row
-    requires predicates_in_bounds { 2 * functions + 2 * predicates ≤ length file.now }
-    requires so_far { SoFar file.now a_clause functions predicates 0 start }
-    ensures { Rowed file.now a_clause (SoFar file.now a_clause functions predicates) result }
-{
-    let mut n: usize = 0;
-    let mut at = start;
-    while stands(file, CLAUSE, at) {
-        match clause(file, functions, predicates, n, at) {
-            Step::Refused(k, p) => {
-                return Row::Refused(k, p);
-            }
-            Step::Next(_, end) => {
-                at = end;
-            }
-        }
-        n += 1;
+impl Names<'_> {
+    // The clauses, which stand behind the functions and predicates.
+    pub fn clauses(&self, start: usize) -> Result<Row, Refusal>
+        requires { SoFar self.now.file.now a_clause self.now.functions self.now.predicates 0 start }
+        ensures { Rowed self.now.file.now a_clause (SoFar self.now.file.now a_clause self.now.functions self.now.predicates) result }
+    {
+        read_row(self.file, Kind::Clause, start, |before| {
+            self.clause(before.records, before.at)
+        })
     }
-    Row::Of(n, at)
 }

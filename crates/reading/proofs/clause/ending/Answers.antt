@@ -1,14 +1,13 @@
+use Rattle.std.proofs.Common.{rules}
+use Rattle.reading.proofs.StepLaws.{passed_on}
+use Rattle.reading.proofs.ClauseLaws.{ending_refused, ending_more, ending_good}
 use Rattle.reading.proofs.clause.ending.Goals as goal
-use Rattle.reading.proofs.ClauseLaws.{ending_good, ending_more, ending_refused}
 
--- src/clause.rt:165:17
-pub returns-then-end-file : goal.returns-then-end-file
-returns-then-end-file c = search ending_more
+pub returns-in_err-after : goal.returns-in_err-after
+returns-in_err-after c = search (rules, passed_on, ending_refused)
 
--- src/clause.rt:158:1
-pub returns-in-Refused : goal.returns-in-Refused
-returns-in-Refused c = search ending_refused
+pub returns-then-after-file : goal.returns-then-after-file
+returns-then-after-file c = search (rules, ending_more)
 
--- src/clause.rt:158:1
-pub returns-else-end-file : goal.returns-else-end-file
-returns-else-end-file c = search ending_good
+pub returns : goal.returns
+returns c = search (rules, ending_good)

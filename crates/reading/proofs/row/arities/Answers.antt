@@ -1,18 +1,14 @@
+use Rattle.std.proofs.Common.{rules}
+use Rattle.records.specs.Numbers.{number}
+use Rattle.reading.proofs.RowLaws.{counted_row, declared_onward, counted_body}
 use Rattle.reading.proofs.row.arities.Goals as goal
-use Rattle.reading.proofs.RowLaws.{counted_less, counted_more, counted_refused, turn_body}
 
--- src/row.rt:56:15
-pub declared-requires : goal.declared-requires
-declared-requires c = search turn_body
+pub read_row-requires-clause-onward : goal.read_row-requires-clause-onward
+read_row-requires-clause-onward c =
+    λ before t p. declared_onward c.args.file.now (number c.args.kind) c.args.limit before.records before.at {t = t} (search rules)
 
--- src/row.rt:58:17
-pub returns-in-Refused : goal.returns-in-Refused
-returns-in-Refused c = search counted_refused
+pub returns : goal.returns
+returns c = counted_row _ _ _ _ _ (λ before x p. search rules) c.requires c.read_row.ensures
 
--- src/row.rt:55:5
-pub loop-k-smaller : goal.loop-k-smaller
-loop-k-smaller c = search counted_less
-
--- src/row.rt:55:5
-pub loop-k-preserved : goal.loop-k-preserved
-loop-k-preserved c = search counted_more
+pub read_row-requires-clause-callable : goal.read_row-requires-clause-callable
+read_row-requires-clause-callable c = let b = counted_body c.requires in search rules

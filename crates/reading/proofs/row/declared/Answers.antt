@@ -1,18 +1,19 @@
+use Rattle.std.proofs.Common.{rules, ◌+◌, ◌<◌, length}
+use Rattle.reading.proofs.StepLaws.{passed_on}
+use Rattle.reading.proofs.RowLaws.{declared_refused, declared_bad, declared_good, declared_inside}
 use Rattle.reading.proofs.row.declared.Goals as goal
-use Rattle.reading.proofs.RowLaws.{declared_bad, declared_good, declared_inside, declared_refused}
 
--- src/row.rt:40:17
-pub allowed-requires : goal.allowed-requires
-allowed-requires c = search declared_inside
+pub returns-in_err-after : goal.returns-in_err-after
+returns-in_err-after c = search (rules, passed_on, declared_refused)
 
--- src/row.rt:41:17
-pub returns-then-not-allowed : goal.returns-then-not-allowed
-returns-then-not-allowed c = search declared_bad
+pub returns-then-limit-before : goal.returns-then-limit-before
+returns-then-limit-before c = search (rules, declared_bad)
 
--- src/row.rt:33:1
-pub returns-in-Refused : goal.returns-in-Refused
-returns-in-Refused c = search declared_refused
+pub returns : goal.returns
+returns c = search (rules, declared_good)
 
--- src/row.rt:33:1
-pub returns-else-not-allowed : goal.returns-else-not-allowed
-returns-else-not-allowed c = search declared_good
+pub overflow_add-at : goal.overflow_add-at
+overflow_add-at c = let i : c.args.before.at + 1 < length c.args.file.now = search (rules, declared_inside) in search rules
+
+pub byte-requires : goal.byte-requires
+byte-requires c = search (rules, declared_inside)

@@ -1,26 +1,29 @@
+use Rattle.std.proofs.Common.{rules}
+use Rattle.meaning.specs.If.{when◌then◌else◌}
+use Rattle.meaning.specs.Reading.{next, byte}
+use Rattle.reading.specs.Steps.{step, any, either}
 use Rattle.reading.proofs.step.next.Goals as goal
-use Rattle.reading.proofs.StepLaws.{code_missing, code_one, code_other, code_two, kind_here}
 
--- src/step.rt:69:9
-pub returns-then-file-at : goal.returns-then-file-at
-returns-then-file-at c = search code_missing
+pub returns-in_err-kind : goal.returns-in_err-kind
+unfolding step next when◌then◌else◌ either byte
+returns-in_err-kind c = search rules
 
--- src/step.rt:72:9
 pub whole-requires-clause-kind_value : goal.whole-requires-clause-kind_value
-whole-requires-clause-kind_value c = search kind_here
+unfolding byte
+whole-requires-clause-kind_value c = search rules
 
--- src/step.rt:72:9
-pub returns-then-file-at-2 : goal.returns-then-file-at-2
-returns-then-file-at-2 c = search code_one
+pub returns-then-stands : goal.returns-then-stands
+unfolding step next when◌then◌else◌ any either byte
+returns-then-stands c = search rules
 
--- src/step.rt:75:9
-pub returns-then-file-at-3 : goal.returns-then-file-at-3
-returns-then-file-at-3 c = search code_two
+pub whole-requires-then-stands-2-clause-kind_value : goal.whole-requires-then-stands-2-clause-kind_value
+unfolding byte
+whole-requires-then-stands-2-clause-kind_value c = search rules
 
--- src/step.rt:65:1
+pub returns-then-stands-2 : goal.returns-then-stands-2
+unfolding step next when◌then◌else◌ any either byte
+returns-then-stands-2 c = search rules
+
 pub returns : goal.returns
-returns c = search code_other
-
--- src/step.rt:75:9
-pub whole-requires-then-file-at-3-clause-kind_value : goal.whole-requires-then-file-at-3-clause-kind_value
-whole-requires-then-file-at-3-clause-kind_value c = search kind_here
+unfolding step next when◌then◌else◌ either byte
+returns c = search rules

@@ -1,10 +1,13 @@
+use Rattle.std.proofs.Common.{rules}
+use Rattle.meaning.specs.If.{when◌then◌else◌}
+use Rattle.meaning.specs.Reading.{next}
+use Rattle.reading.specs.Steps.{step, any}
 use Rattle.reading.proofs.step.whole.Goals as goal
-use Rattle.reading.proofs.StepLaws.{whole_good, whole_short}
 
--- src/step.rt:59:9
 pub returns-then-file-at : goal.returns-then-file-at
-returns-then-file-at c = search whole_short
+unfolding step next when◌then◌else◌ any
+returns-then-file-at c = search rules
 
--- src/step.rt:52:1
 pub returns : goal.returns
-returns c = search whole_good
+unfolding step next when◌then◌else◌ any
+returns c = search rules
