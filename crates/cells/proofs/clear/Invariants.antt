@@ -1,8 +1,6 @@
+use Rattle.std.proofs.Common.{◌≡◌}
+use Rattle.cells.specs.Cells.{freed}
 use Rattle.cells.proofs.clear.Given as goal
-use Rattle.cells.proofs.Laws.{Clearing}
 
-abbrev pub invariant-loop-left : goal.invariant-loop-left
-invariant-loop-left l = Clearing l.lay l.from l.count l.initial.w l.left l.w
-
-abbrev pub decreases-loop-left : goal.decreases-loop-left
-decreases-loop-left l = l.left
+abbrev pub invariant-loop-i : goal.invariant-loop-i
+invariant-loop-i l = freed l.i l.from l.lay l.w ≡ freed l.count l.from l.lay l.initial.w

@@ -1,8 +1,6 @@
+use Rattle.std.proofs.Common.{◌≡◌, ◌-◌}
+use Rattle.cells.specs.Cells.{followed}
 use Rattle.cells.proofs.follow.Given as goal
-use Rattle.cells.proofs.Laws.{Following}
 
-abbrev pub invariant-loop-f : goal.invariant-loop-f
-invariant-loop-f l = Following l.file l.w l.lay l.hops l.initial.at l.left l.at
-
-abbrev pub decreases-loop-f : goal.decreases-loop-f
-decreases-loop-f l = l.left
+abbrev pub invariant-loop : goal.invariant-loop
+invariant-loop l = followed (l.hops - l.counter) l.file l.w l.lay l.at ≡ followed l.hops l.file l.w l.lay l.initial.at
