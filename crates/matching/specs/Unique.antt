@@ -1,6 +1,6 @@
 -- What matching comes to is one: one result, one content of scratch.
 -- Assumes nothing.
-use Rattle.std.specs.Prelude.{ℕ, ◌≡◌, refl, List}
+use Rattle.std.specs.Prelude.{ℕ, ◌≡◌, refl, List, Err}
 use Rattle.std.proofs.Common.{sym, ap, ◌∙◌, arith}
 use Rattle.std.proofs.lemmas.Bool.{false≢true}
 use Rattle.meaning.specs.declared.CellNumber.{CellNumber}
@@ -9,10 +9,11 @@ use Rattle.cells.specs.declared.Found.{Found}
 use Rattle.cells.specs.declared.Found.TheVariants.{Unbound, Function}
 use Rattle.cells.specs.declared.Layout.{Layout}
 use Rattle.cells.specs.Unique.{Once, inside_once}
-use Rattle.matching.specs.declared.Pairing.{Pairing}
-use Rattle.matching.specs.declared.Pairing.TheVariants.{Same, Differ, Over}
+use Rattle.matching.specs.declared.Pairs.{Pairs}
+use Rattle.matching.specs.declared.Clash.{Clash}
+use Rattle.matching.specs.declared.Clash.TheVariants.{Differ, Over}
 use Rattle.matching.specs.declared.Matched.{Matched}
-use Rattle.matching.specs.Matching.{bound_to, BindChecked, is_inside, binds, BindHead, unmentioned, mentioned, Functions, unequal, crowded, equal, Compares, one_variable, head_variable, head_free, goal_free, both_applied, TakesPair, no_pair, front, MatchesPairs, late, differed, crowded_out, matched_all, next_pair}
+use Rattle.matching.specs.Matching.{Pairing, going, bound_to, BindChecked, is_inside, binds, BindHead, unmentioned, mentioned, Functions, unequal, crowded, equal, Compares, one_variable, head_variable, head_free, goal_free, both_applied, TakesPair, no_pair, front, MatchesPairs, late, clashed, matched_all, next_pair}
 
 checked_once : {file : List ℕ} {lay : Layout} {stamp trail work fresh : ℕ} {x : CellNumber} {h : Held} {w u v : List ℕ} {r s : Pairing} → BindChecked file lay stamp trail work fresh x h w r u → BindChecked file lay stamp trail work fresh x h w s v → Once r s u v
 checked_once (is_inside a) (is_inside b) = (refl, (inside_once a b).1)
@@ -80,50 +81,43 @@ takes_once (no_pair a) (front b c d) = absurd (b a)
 takes_once (front a b c) (no_pair d) = absurd (a d)
 takes_once (front a b c) (front d e f) = let z = e ∙ sym b in compares_once c (rw z at f)
 
--- three ways of a pair, apart
-same_differs : {A : Type 0} {a b c : ℕ} → Same a b c ≡ Differ → A
-same_differs e = let z : ◌≡◌ {A = ℕ} 0 1 = cc in absurd (omega arith)
-
-same_over : {A : Type 0} {a b c : ℕ} → Same a b c ≡ Over → A
-same_over e = let z : ◌≡◌ {A = ℕ} 0 1 = cc in absurd (omega arith)
+-- a pair clashes or goes on, and not both
+goes_clashes : {A : Type 0} {a b c : ℕ} {e : Clash} → going a b c ≡ Err e → A
+goes_clashes e = let z : ◌≡◌ {A = ℕ} 0 1 = cc in absurd (omega arith)
 
 differ_over : {A : Type 0} → Differ ≡ Over → A
 differ_over e = let z : ◌≡◌ {A = ℕ} 0 1 = cc in absurd (omega arith)
 
+-- the pairs that it goes on with are one
+goes_once : {a b c p q r : ℕ} → going a b c ≡ going p q r → (a ≡ p) × (b ≡ q) × (c ≡ r)
+goes_once {a} {b} {c} {p} {q} {r} e =
+    let i : ◌≡◌ {A = Pairs} (record { trail = a; work = b; fresh = c }) (record { trail = p; work = q; fresh = r }) = cc in
+    (ap (λ (m : Pairs). m.trail) i, ap (λ (m : Pairs). m.work) i, ap (λ (m : Pairs). m.fresh) i)
+
 pub matches_once : {file : List ℕ} {lay : Layout} {limit budget cells trail work fresh units : ℕ} {w u v : List ℕ} {r s : Matched}
     → MatchesPairs file lay limit budget cells trail work fresh units w r u → MatchesPairs file lay limit budget cells trail work fresh units w s v → Once r s u v
 matches_once (late a) (late b) = (refl, refl)
-matches_once (late a) (differed b c) = absurd (omega arith)
-matches_once (late a) (crowded_out b c) = absurd (omega arith)
+matches_once (late a) (clashed b c) = absurd (omega arith)
 matches_once (late a) (matched_all b c d) = absurd (omega arith)
 matches_once (late a) (next_pair b c d e) = absurd (omega arith)
-matches_once (differed a b) (late c) = absurd (omega arith)
-matches_once (differed a b) (differed c d) = (refl, (takes_once b d).1)
-matches_once (differed a b) (crowded_out c d) = differ_over (takes_once b d).0
-matches_once (differed a b) (matched_all c d e) = same_differs (takes_once d b).0
-matches_once (differed a b) (next_pair c d e f) = same_differs (takes_once d b).0
-matches_once (crowded_out a b) (late c) = absurd (omega arith)
-matches_once (crowded_out a b) (differed c d) = differ_over (takes_once d b).0
-matches_once (crowded_out a b) (crowded_out c d) = (refl, (takes_once b d).1)
-matches_once (crowded_out a b) (matched_all c d e) = same_over (takes_once d b).0
-matches_once (crowded_out a b) (next_pair c d e f) = same_over (takes_once d b).0
+matches_once (clashed a b) (late c) = absurd (omega arith)
+matches_once (clashed {c = i} a b) (clashed {c = j} c d) =
+    let (x, y) = takes_once b d in
+    let z : i ≡ j = cc in
+    (rw z refl, y)
+matches_once (clashed a b) (matched_all c d e) = goes_clashes (takes_once d b).0
+matches_once (clashed a b) (next_pair c d e f) = goes_clashes (takes_once d b).0
 matches_once (matched_all a b c) (late d) = absurd (omega arith)
-matches_once (matched_all a b c) (differed d e) = same_differs (takes_once b e).0
-matches_once (matched_all a b c) (crowded_out d e) = same_over (takes_once b e).0
+matches_once (matched_all a b c) (clashed d e) = goes_clashes (takes_once b e).0
 matches_once (matched_all {t = i} {k = j} {f = k} a b c) (matched_all {t = l} {k = m} {f = n} d e f) =
     let (x, y) = takes_once b e in
-    let α : i ≡ l = cc in
-    let β : j ≡ m = cc in
-    let γ : k ≡ n = cc in
+    let (α, β, γ) = goes_once x in
     (rw (α, β, γ) refl, y)
-matches_once (matched_all {k = j} a b c) (next_pair {k = k} d e f g) = let x = (takes_once b e).0 in let z : j ≡ k = cc in absurd (f (sym z ∙ c))
+matches_once (matched_all a b c) (next_pair d e f g) = absurd (f (sym (goes_once (takes_once b e).0).1 ∙ c))
 matches_once (next_pair a b c d) (late e) = absurd (omega arith)
-matches_once (next_pair a b c d) (differed e f) = same_differs (takes_once b f).0
-matches_once (next_pair a b c d) (crowded_out e f) = same_over (takes_once b f).0
-matches_once (next_pair {k = j} a b c d) (matched_all {k = k} e f g) = let x = (takes_once b f).0 in let z : j ≡ k = cc in absurd (c (z ∙ g))
-matches_once (next_pair {t = i} {k = j} {f = k} a b c d) (next_pair {t = l} {k = m} {f = n} e f g h) =
+matches_once (next_pair a b c d) (clashed e f) = goes_clashes (takes_once b f).0
+matches_once (next_pair a b c d) (matched_all e f g) = absurd (c ((goes_once (takes_once b f).0).1 ∙ g))
+matches_once (next_pair a b c d) (next_pair e f g h) =
     let (x, y) = takes_once b f in
-    let α : l ≡ i = cc in
-    let β : m ≡ j = cc in
-    let γ : n ≡ k = cc in
-    matches_once d (rw (α, β, γ, ← y) at h)
+    let (α, β, γ) = goes_once x in
+    matches_once d (rw (← α, ← β, ← γ, ← y) at h)
