@@ -1,25 +1,43 @@
 -- What the functions of the search do, word for word.
 -- Assumes nothing.
-use Rattle.std.specs.Prelude.{ℕ, zero, suc, ◌+◌, ◌-◌, ◌*◌, ◌%◌, ◌<◌, ◌≤◌, ◌≡◌, ◌||◌, List, eqb, ltb, get_or}
+use Rattle.std.specs.Prelude.{ℕ, zero, suc, ◌+◌, ◌-◌, ◌*◌, ◌%◌, ◌<◌, ◌≤◌, ◌≡◌, ◌||◌, List, eqb, ltb, get_or, Option, Some, None, Result, Ok, Err}
 use Rattle.meaning.specs.If.{when◌then◌else◌}
 use Rattle.meaning.specs.Reading.{byte, two_bytes, goal_due}
 use Rattle.meaning.specs.declared.Place.{Place}
 use Rattle.meaning.specs.declared.ClauseNumber.{ClauseNumber}
+use Rattle.meaning.specs.declared.End.{End}
 use Rattle.meaning.specs.declared.End.TheVariants.{NoMore, Wanted, Cells, Steps, Work}
-use Rattle.words.specs.Words.{plus, ahead}
-use Rattle.cells.specs.Cells.{undone, freed}
+use Rattle.words.specs.Words.{plus, ahead, put_four}
+use Rattle.cells.specs.Cells.{undone, freed, word_of_place, place_after}
 use Rattle.cells.specs.declared.Layout.{Layout}
-use Rattle.matching.specs.Matching.{put_four, word_of_place, place_after, past_kind, pushed, TakesPair}
-use Rattle.matching.specs.declared.Pairing.TheVariants.{Same, Differ, Over}
+use Rattle.matching.specs.Matching.{going, past_kind, pushed, TakesPair}
+use Rattle.matching.specs.declared.Clash.TheVariants.{Differ, Over}
 use Rattle.search.specs.declared.Given.{Given}
 use Rattle.search.specs.declared.Next.{Next}
 use Rattle.search.specs.declared.Rest.{Rest}
-use Rattle.search.specs.declared.Room.{Room}
-use Rattle.search.specs.declared.Room.TheVariants.{Cells as RoomCells, Steps as RoomSteps, Fits}
+use Rattle.search.specs.declared.Fits.{Fits}
+use Rattle.search.specs.declared.StepWord.{StepWord}
+use Rattle.search.specs.declared.StepWord.TheVariants.{Clause, Goal, Caller, Place as PlaceWord, Step, Cells as CellsWord, Trail, Choice}
 use Rattle.search.specs.declared.Regs.{Regs}
 use Rattle.search.specs.declared.Trial.{Trial}
 use Rattle.search.specs.declared.Due.{Due}
 use Rattle.search.specs.declared.Due.TheVariants.{Try, Pair, Cut, Answer, Over as OverDue}
+
+-- the place of a word in its step
+abbrev pub word_number : StepWord → ℕ
+word_number Clause = 0
+word_number Goal = 1
+word_number Caller = 2
+word_number PlaceWord = 3
+word_number Step = 4
+word_number CellsWord = 5
+word_number Trail = 6
+word_number Choice = 7
+
+-- a clause as a word names it, from 1; 0 is none
+unfoldable pub clause_numbered : ℕ → Option ClauseNumber
+clause_numbered zero = None
+clause_numbered (suc k) = Some (record { 0 = k })
 
 -- the word k of a step, which is numbered from 1
 unfoldable pub step_word : List ℕ → Layout → ℕ → ℕ → ℕ
@@ -46,7 +64,7 @@ below_of a b = when ltb a b then a else 0
 
 -- the choice before that of the step c, and the next clause to try
 unfoldable pub rest_word : List ℕ → Layout → ℕ → Rest
-rest_word w lay c = record { prior = below_of (step_word w lay c 7) c; clause = clause_next_word w lay (step_word w lay c 0) }
+rest_word w lay c = record { prior = below_of (step_word w lay c 7) c; clause = clause_numbered (clause_next_word w lay (step_word w lay c 0)) }
 
 -- the goal of the step c is tried again with the clause k, trail, steps and choices being as they were before it
 unfoldable pub retried : List ℕ → Layout → Regs → ℕ → ℕ → ℕ → ℕ → ℕ → Due
@@ -58,9 +76,9 @@ retried w lay m trail c steps prior k =
 -- going back from the choice c, with so many bindings
 pub data Backs (lay : Layout) (m : Regs) : ℕ → ℕ → List ℕ → Due → List ℕ → Type 0 where
   no_choice : {trail c : ℕ} {w : List ℕ} → c ≤ 0 → Backs lay m trail c w (OverDue NoMore (record { cells = m.cells; trail = trail; steps = m.steps; choice = 0; work = m.work; fresh = m.fresh; next = m.next; units = m.units })) w
-  retries : {trail c : ℕ} {w v : List ℕ} → 0 < c → v ≡ undone trail (step_word w lay c 6) lay w → 0 < (rest_word v lay c).clause
-      → Backs lay m trail c w (retried v lay m (step_word w lay c 6) c (c - 1) (rest_word v lay c).prior ((rest_word v lay c).clause - 1)) v
-  pops : {trail c : ℕ} {w v u : List ℕ} {d : Due} → 0 < c → v ≡ undone trail (step_word w lay c 6) lay w → (rest_word v lay c).clause ≤ 0
+  retries : {trail c : ℕ} {w v : List ℕ} {k : ClauseNumber} → 0 < c → v ≡ undone trail (step_word w lay c 6) lay w → (rest_word v lay c).clause ≡ Some k
+      → Backs lay m trail c w (retried v lay m (step_word w lay c 6) c (c - 1) (rest_word v lay c).prior k.0) v
+  pops : {trail c : ℕ} {w v u : List ℕ} {d : Due} → 0 < c → v ≡ undone trail (step_word w lay c 6) lay w → (rest_word v lay c).clause ≡ None
       → Backs lay m (step_word w lay c 6) (rest_word v lay c).prior v d u → Backs lay m trail c w d u
 
 -- a goal with the clause k to try, and the goals behind it
@@ -91,18 +109,18 @@ pub data MatchesOn (file : List ℕ) (lay : Layout) (m : Regs) (w : List ℕ) : 
   matched : {d : Due} {v : List ℕ} → m.work ≡ 0 → GoesOn file lay m w d v → MatchesOn file lay m w d v
   more : (m.work ≡ 0 → ⊥) → MatchesOn file lay m w (Pair m) w
 
--- the words of a step: clause, goal, the cells of its variables, the goals behind it (place, step), cells, bindings and choice before it
+-- a step's words are written: clause, goal, the cells of its variables, the goals behind it (place, step), cells, bindings and choice before it
 unfoldable pub step_put : Layout → Trial → Regs → List ℕ → List ℕ
 step_put lay t m w =
     put_four
     (put_four w (lay.steps + 8 * m.steps) t.clause.0 (word_of_place t.goal) t.caller.0 (word_of_place t.next.place))
     (lay.steps + 8 * m.steps + 4) t.next.step m.cells m.trail m.choice
 
-unfoldable pub room_of : List ℕ → List ℕ → Given → ClauseNumber → Regs → Room
+unfoldable pub room_of : List ℕ → List ℕ → Given → ClauseNumber → Regs → Result Fits End
 room_of file w g k m =
-    when ltb g.limits.cells (m.cells + byte file ((clause_place_word w g.lay k).0 + 3)) then RoomCells else
-    when ltb g.limits.steps (m.steps + 1) then RoomSteps else
-    Fits (clause_place_word w g.lay k) (byte file ((clause_place_word w g.lay k).0 + 3))
+    when ltb g.limits.cells (m.cells + byte file ((clause_place_word w g.lay k).0 + 3)) then Err Cells else
+    when ltb g.limits.steps (m.steps + 1) then Err Steps else
+    Ok (record { place = clause_place_word w g.lay k; variables = byte file ((clause_place_word w g.lay k).0 + 3) })
 
 unfoldable pub arity_at : List ℕ → ℕ → Place → ℕ
 arity_at file functions goal = byte file (2 * functions + 2 * two_bytes file (goal.0 + 1) + 1)
@@ -133,15 +151,14 @@ pub data Enters (file : List ℕ) (g : Given) (t : Trial) (m : Regs) (p : Place)
       (entered_words file g t m p variables w)
 
 pub data TriesHead (file : List ℕ) (g : Given) (t : Trial) (m : Regs) (w : List ℕ) : Due → List ℕ → Type 0 where
-  over_cells : room_of file w g t.clause m ≡ RoomCells → TriesHead file g t m w (OverDue Cells m) w
-  over_steps : room_of file w g t.clause m ≡ RoomSteps → TriesHead file g t m w (OverDue Steps m) w
-  tries : {p : Place} {variables : ℕ} {n : Regs} {d : Due} {v u : List ℕ} → room_of file w g t.clause m ≡ Fits p variables → Enters file g t m p variables w n v → MatchesOn file g.lay n v d u → TriesHead file g t m w d u
+  no_room : {e : End} → room_of file w g t.clause m ≡ Err e → TriesHead file g t m w (OverDue e m) w
+  tries : {fit : Fits} {n : Regs} {d : Due} {v u : List ℕ} → room_of file w g t.clause m ≡ Ok fit → Enters file g t m fit.place fit.variables w n v → MatchesOn file g.lay n v d u → TriesHead file g t m w d u
 
 pub data MovesPair (file : List ℕ) (g : Given) (m : Regs) (w : List ℕ) : Due → List ℕ → Type 0 where
-  same : {trail work fresh : ℕ} {d : Due} {v u : List ℕ} → TakesPair file g.lay g.limits.work m.units m.cells m.trail m.work m.fresh w (Same trail work fresh) v
+  same : {trail work fresh : ℕ} {d : Due} {v u : List ℕ} → TakesPair file g.lay g.limits.work m.units m.cells m.trail m.work m.fresh w (going trail work fresh) v
       → MatchesOn file g.lay (record { cells = m.cells; trail = trail; steps = m.steps; choice = m.choice; work = work; fresh = fresh; next = m.next; units = m.units }) v d u → MovesPair file g m w d u
-  differ : {d : Due} {v u : List ℕ} → TakesPair file g.lay g.limits.work m.units m.cells m.trail m.work m.fresh w Differ v → Backs g.lay m m.trail m.choice v d u → MovesPair file g m w d u
-  over_work : {v : List ℕ} → TakesPair file g.lay g.limits.work m.units m.cells m.trail m.work m.fresh w Over v → MovesPair file g m w (OverDue Work m) v
+  differ : {d : Due} {v u : List ℕ} → TakesPair file g.lay g.limits.work m.units m.cells m.trail m.work m.fresh w (Err Differ) v → Backs g.lay m m.trail m.choice v d u → MovesPair file g m w d u
+  over_work : {v : List ℕ} → TakesPair file g.lay g.limits.work m.units m.cells m.trail m.work m.fresh w (Err Over) v → MovesPair file g m w (OverDue Work m) v
 
 -- the latest choice that a cut leaves: none in the query, in a clause's body the latest before the goal of its step
 unfoldable pub kept_of : List ℕ → Layout → ℕ → ℕ

@@ -1,6 +1,6 @@
 -- What going back, going on, a cut and the start come to is one: one result, one content of scratch.
 -- Assumes nothing.
-use Rattle.std.specs.Prelude.{ℕ, ◌≡◌, refl, List}
+use Rattle.std.specs.Prelude.{ℕ, ◌≡◌, refl, List, Some, None}
 use Rattle.std.proofs.Common.{sym, ap, ◌∙◌, arith}
 use Rattle.cells.specs.declared.Layout.{Layout}
 use Rattle.cells.specs.Unique.{Once}
@@ -16,10 +16,14 @@ backs_once (no_choice a) (no_choice b) = (refl, refl)
 backs_once (no_choice a) (retries b e f) = absurd (omega arith)
 backs_once (no_choice a) (pops b e f g) = absurd (omega arith)
 backs_once (retries a b d) (no_choice e) = absurd (omega arith)
-backs_once (retries a b d) (retries e f g) = let z = b ∙ sym f in (rw z refl, z)
-backs_once {lay} {c = c} (retries a b d) (pops e f g h) = let z = ap (λ (x : List ℕ). (rest_word x lay c).clause) (b ∙ sym f) in absurd (omega arith)
+backs_once {lay} {m} {c = c} {w} (retries {k = k} a b d) (retries {k = l} e f g) =
+    let z = b ∙ sym f in
+    let y = rw z at d in
+    let x : k ≡ l = cc in
+    (rw (z, x) refl, z)
+backs_once {lay} {c = c} (retries {k = k} a b d) (pops e f g h) = let z = ap (λ (x : List ℕ). (rest_word x lay c).clause) (b ∙ sym f) in let e : Some k ≡ None = cc in cc
 backs_once (pops a b d e) (no_choice f) = absurd (omega arith)
-backs_once {lay} {c = c} (pops a b d e) (retries f g h) = let z = ap (λ (x : List ℕ). (rest_word x lay c).clause) (b ∙ sym g) in absurd (omega arith)
+backs_once {lay} {c = c} (pops a b d e) (retries {k = k} f g h) = let z = ap (λ (x : List ℕ). (rest_word x lay c).clause) (b ∙ sym g) in let e : Some k ≡ None = cc in cc
 backs_once (pops a b d e) (pops f g h i) = let z = b ∙ sym g in backs_once e (rw (← z) at i)
 
 calls_once : {file : List ℕ} {lay : Layout} {m : Regs} {n : Next} {w u v : List ℕ} {r s : Due} → Calls file lay m n w r u → Calls file lay m n w s v → Once r s u v
