@@ -1,94 +1,78 @@
 // Writing an answer: it is measured first, and written only where it fits.
-#![tactic(auto)]
+#![tactic(auto, using(crate::proofs::Laws::writing))]
 
-ghost use Rattle.std.specs.Prelude.{◌≡◌, ◌-◌, ◌%◌, set};
+ghost use Rattle.std.specs.Prelude.{◌≡◌};
+ghost use Rattle.records.specs.Numbers.{number};
 ghost use Rattle.answers.specs.Written.{two_put, record_put, recorded, first_put, steps_put, last_put};
 ghost use Rattle.answers.specs.Values.{forgotten, Number, appeared_of, due_put, due_at, arguments_put, FreeNode, FunctionNode, Node, NextNode, Nodes, value_of, Value, Values, none_yet};
 ghost use Rattle.answers.specs.Answering.{Measures, Writes, Answers};
 
-use cells::{Cell, Found, Held, Layout, follow, read_cell};
-use meaning::{CellNumber, Place};
-use records::BODY_LENGTHS;
+use cells::{Cell, Found, Held, Layout, after, follow, place_word, read_cell, read_held};
+use meaning::{CellNumber, End, Place};
+use records::{BODY_LENGTHS, Kind};
 use words::{add, byte_at, get, on, put};
 
-// An answer that is written whole, in so many bytes; one that passes the room; one with more nodes due than W.
-#[derive(Clone, Copy)]
-pub enum Wrote {
-    Bytes(usize),
-    Full,
-    Crowded,
-}
-
-// The answer so far: its size, how many free variables have appeared, how many nodes of the value are due, and the end that stops
-// its writing, or 0.
+// The answer so far: its size, how many free variables have appeared, how many nodes of the value are due.
 #[derive(Clone, Copy)]
 pub struct Tally {
     pub size: usize,
     pub free: u32,
     pub due: u32,
-    pub stop: u32,
+}
+
+// A pass that stopped: the end that stops it, and how far it was.
+#[derive(Clone, Copy)]
+pub struct Stopped {
+    pub end: End,
+    pub tally: Tally,
+}
+
+// The end of a pass that stopped, without how far it was.
+impl From<Stopped> for End {
+    ghost from_gives = { λ stopped end. end ≡ stopped.end };
+
+    fn from(stopped: Stopped) -> End {
+        stopped.end
+    }
 }
 
 // The sizes of the records of an answer, its kind byte and its body: its first, an applied function, a free variable, a step, its last.
-const ANSWER: usize = 1 + (BODY_LENGTHS[0x0A] as usize);
+const FIRST: usize = 1 + BODY_LENGTHS[Kind::Answer as usize] as usize;
 
-const APPLICATION: usize = 1 + (BODY_LENGTHS[0x05] as usize);
+const APPLICATION: usize = 1 + BODY_LENGTHS[Kind::Application as usize] as usize;
 
-const VARIABLE: usize = 1 + (BODY_LENGTHS[0x0B] as usize);
+const VARIABLE: usize = 1 + BODY_LENGTHS[Kind::AnswerVariable as usize] as usize;
 
-const STEP: usize = 1 + (BODY_LENGTHS[0x0C] as usize);
+const STEP: usize = 1 + BODY_LENGTHS[Kind::Step as usize] as usize;
 
-const END: usize = 1 + (BODY_LENGTHS[0x0D] as usize);
-
-// Sets the byte of the output at an index.
-fn put_byte(out: &mut [u8], i: usize, b: u32)
-    ensures { out.new ≡ set out.old i (b % 256) }
-{
-    if i < out.len() {
-        out[i] = (b % 256) as u8;
-    }
-}
+const LAST: usize = 1 + BODY_LENGTHS[Kind::AnswerEnd as usize] as usize;
 
 // A two-byte number, the high byte first.
+#[tactic(auto, unfolding(crate::specs::Written::two_put))]
 fn put_two(out: &mut [u8], i: usize, n: u32)
     ensures { out.new ≡ two_put i n out.old }
 {
-    put_byte(out, i, n / 256);
-    put_byte(out, on(i, 1), n);
+    let [_, _, high, low] = n.to_be_bytes();
+    put(out, i, high);
+    put(out, on(i, 1), low);
 }
 
-// A record of a kind with a two-byte number.
-fn put_record(out: &mut [u8], i: usize, kind: u32, n: u32)
-    ensures { out.new ≡ record_put i kind n out.old }
+// A record with a two-byte number.
+#[tactic(auto, unfolding(crate::specs::Written::record_put))]
+fn put_record(out: &mut [u8], i: usize, kind: Kind, n: u32)
+    ensures { out.new ≡ record_put i (number kind) n out.old }
 {
-    put_byte(out, i, kind);
+    put(out, i, u8::from(kind));
     put_two(out, on(i, 1), n);
 }
 
-// The same while the answer is written; nothing while it is measured.
-fn write_record(out: &mut [u8], write: bool, i: usize, kind: u32, n: u32)
-    ensures { out.new ≡ recorded write i kind n out.old }
-{
-    if write {
-        put_record(out, i, kind, n);
-    }
-}
-
-// The room left behind so many bytes.
-fn room_left(room: usize, size: usize) -> usize
-    ensures { result ≡ room - size }
-{
-    if room < size { 0 } else { room - size }
-}
-
 // No variable has appeared.
+// Kept, and no `fill`, which would ask that all of them stand in the words.
 fn forget(w: &mut [u32], lay: Layout, cells: u32)
     ensures { w.new ≡ forgotten cells lay w.old }
 {
-    let mut left = cells;
-    while 0 < left {
-        left -= 1;
-        put(w, (lay.list as usize) + (left as usize), 0);
+    for x in (0..cells).rev() {
+        put(w, lay.list as usize + x as usize, 0);
     }
 }
 
@@ -96,256 +80,244 @@ fn forget(w: &mut [u32], lay: Layout, cells: u32)
 fn number_of(w: &mut [u32], lay: Layout, x: CellNumber, free: u32) -> u32
     ensures { Number lay x.0 free w.old result w.new }
 {
-    let n = get(w, (lay.list as usize) + (x.0 as usize));
-    if n != 0 {
-        return n - 1;
+    let at = lay.list as usize + x.0 as usize;
+    if let Some(known) = get(w, at).checked_sub(1) {
+        return known;
     }
-    put(w, (lay.list as usize) + (x.0 as usize), add(free, 1));
+    put(w, at, add(free, 1));
     free
 }
 
 // How many variables have appeared, where so many had and now the one of this number does.
+#[tactic(auto, using(crate::proofs::Laws::choosing), unfolding(crate::specs::Values::appeared_of))]
 fn appeared(free: u32, number: u32) -> u32
     ensures { result ≡ appeared_of free number }
 {
-    if number < free {
-        return free;
-    }
-    add(number, 1)
+    if number < free { free } else { add(number, 1) }
 }
 
 // The term that is due at i.
+// Kept, as put_due is, beside the list of pairs in matching: due_at and due_put have two words a term, pairs four, and theorems name both.
+#[tactic(auto, using(crate::proofs::Laws::due_held))]
 fn get_due(w: &[u32], lay: Layout, i: u32) -> Held
     ensures { result ≡ due_at w.now lay i }
 {
-    let place = get(w, (lay.work as usize) + 2 * (i as usize));
-    let base = get(w, (lay.work as usize) + 2 * (i as usize) + 1);
-    Held {
-        place: Place(place as usize),
-        base: CellNumber(base),
-    }
+    read_held(w, lay.work as usize + 2 * i as usize)
 }
 
 // A term is due at i: its place, and the cell that its variables are counted from.
-fn put_due(w: &mut [u32], lay: Layout, i: u32, place: usize, base: u32)
-    ensures { w.new ≡ due_put lay i place base w.old }
+#[tactic(auto, unfolding(crate::specs::Values::due_put, cells::specs::Cells::word_of_place))]
+fn put_due(w: &mut [u32], lay: Layout, i: u32, p: Place, base: CellNumber)
+    ensures { w.new ≡ due_put lay i p.0 base.0 w.old }
 {
-    put(
-        w,
-        (lay.work as usize) + 2 * (i as usize),
-        (place % 4294967296) as u32,
-    );
-    put(w, (lay.work as usize) + 2 * (i as usize) + 1, base);
+    let at = lay.work as usize + 2 * i as usize;
+    put(w, at, place_word(p));
+    put(w, at + 1, base.0);
 }
 
 // The arguments of an applied function are due, the first of them foremost.
-fn put_arguments(w: &mut [u32], lay: Layout, due: u32, arity: u32, place: usize, base: u32)
-    ensures { w.new ≡ arguments_put arity due base place lay w.old }
+#[tactic(auto, using(crate::proofs::Laws::writing), unfolding(cells::specs::Cells::place_after))]
+fn put_arguments(w: &mut [u32], lay: Layout, due: u32, arity: u32, first: Place, base: CellNumber)
+    ensures { w.new ≡ arguments_put arity due base.0 first.0 lay w.old }
 {
-    let mut left = arity;
-    let mut p = place;
-    while 0 < left {
-        left -= 1;
-        put_due(w, lay, add(due, left), p, base);
-        p = get(w, on(64, p)) as usize;
+    let mut p = first;
+    for i in (0..arity).rev() {
+        put_due(w, lay, add(due, i), p, base);
+        p = after(w, p);
     }
 }
 
-// A node that is a free variable: the record of its number.
-fn free_node(
-    w: &mut [u32],
-    out: &mut [u8],
-    lay: Layout,
-    write: bool,
-    t: Tally,
-    x: CellNumber,
-) -> Tally
-    ensures { FreeNode lay write t x.0 w.old out.old result w.new out.new }
-{
-    if room_left(out.len(), t.size) < VARIABLE {
-        return Tally { stop: 26, ..t };
-    }
-    let n = number_of(w, lay, x, t.free);
-    write_record(out, write, t.size, 11, n);
-    Tally {
-        size: t.size + VARIABLE,
-        free: appeared(t.free, n),
-        due: t.due,
-        stop: 0,
-    }
+// A derivation that answers the query: the file, where the regions of scratch begin, how many nodes may be due, how many variables the query
+// has, how many cells and steps are taken, and how many hops a variable is followed.
+#[derive(Clone, Copy)]
+pub struct Derivation<'a> {
+    pub file: &'a [u8],
+    pub lay: Layout,
+    pub limit: u32,
+    pub variables: u32,
+    pub cells: u32,
+    pub steps: u32,
+    pub hops: u32,
 }
 
-// A node that is a function applied: its record, and its arguments are due.
-fn function_node(
-    file: &[u8],
-    w: &mut [u32],
-    out: &mut [u8],
-    lay: Layout,
-    limit: u32,
-    write: bool,
-    t: Tally,
-    f: u32,
-    h: Held,
-) -> Tally
-    ensures { FunctionNode file.now lay limit write t f h w.old out.old result w.new out.new }
-{
-    if room_left(out.len(), t.size) < APPLICATION {
-        return Tally { stop: 26, ..t };
-    }
-    let arity = byte_at(file, 2 * (f as usize) + 1);
-    let due = add(t.due, arity);
-    if limit < due {
-        return Tally { stop: 25, ..t };
-    }
-    write_record(out, write, t.size, 5, f);
-    let p = h.place;
-    let b = h.base;
-    put_arguments(w, lay, t.due, arity, on(p.0, APPLICATION), b.0);
-    Tally {
-        size: t.size + APPLICATION,
-        free: t.free,
-        due,
-        stop: 0,
-    }
-}
-
-// A node of a value, by what following its term comes to.
-fn node(
-    file: &[u8],
-    w: &mut [u32],
-    out: &mut [u8],
-    lay: Layout,
-    limit: u32,
-    write: bool,
-    t: Tally,
-    found: Found,
-) -> Tally
-    ensures { Node file.now lay limit write t found w.old out.old result w.new out.new }
-{
-    match found {
-        Found::Unbound(x, _) => free_node(w, out, lay, write, t, x),
-        Found::Function(f, h) => function_node(file, w, out, lay, limit, write, t, f, h),
-    }
-}
-
-// The foremost node due, behind which so many more are.
-fn next_node(
-    file: &[u8],
-    w: &mut [u32],
-    out: &mut [u8],
-    lay: Layout,
-    limit: u32,
-    write: bool,
-    hops: u32,
-    t: Tally,
-) -> Tally
-    ensures { NextNode file.now lay limit write hops t w.old out.old result w.new out.new }
-{
-    let h = get_due(w, lay, t.due);
-    let found = follow(file, w, lay, hops, h);
-    node(file, w, out, lay, limit, write, t, found)
-}
-
-// The rest of a value: its nodes due.
-fn nodes(
-    file: &[u8],
-    w: &mut [u32],
-    out: &mut [u8],
-    lay: Layout,
-    limit: u32,
-    write: bool,
-    hops: u32,
-    first: Tally,
-) -> Tally
-    ensures { Nodes file.now lay limit write hops first w.old out.old result w.new out.new }
-{
-    let mut t = first;
-    loop {
-        if t.stop != 0 {
-            return t;
+// A pass over the values of its answer writes them (WRITE), or only measures them.
+impl Derivation<'_> {
+    // A record of a kind with a two-byte number, where the pass writes.
+    #[tactic(auto, using(crate::proofs::Laws::choosing), unfolding(crate::specs::Written::recorded))]
+    fn put_record<const WRITE: bool>(&self, out: &mut [u8], i: usize, kind: Kind, n: u32)
+        ensures { out.new ≡ recorded WRITE i (number kind) n out.old }
+    {
+        if WRITE {
+            put_record(out, i, kind, n);
         }
-        if t.due == 0 {
-            return t;
+    }
+
+    // A node that is a free variable: the record of its number.
+    fn free_node<const WRITE: bool>(
+        &self,
+        w: &mut [u32],
+        out: &mut [u8],
+        t: Tally,
+        x: CellNumber,
+    ) -> Result<Tally, Stopped>
+        ensures { FreeNode self.now.lay WRITE t x.0 w.old out.old result w.new out.new }
+    {
+        if out.len().saturating_sub(t.size) < VARIABLE {
+            return Err(Stopped {
+                end: End::Output,
+                tally: t,
+            });
         }
-        let rest = Tally {
-            due: t.due - 1,
+        let n = number_of(w, self.lay, x, t.free);
+        self.put_record::<WRITE>(out, t.size, Kind::AnswerVariable, n);
+        Ok(Tally {
+            size: t.size + VARIABLE,
+            free: appeared(t.free, n),
             ..t
-        };
-        t = next_node(file, w, out, lay, limit, write, hops, rest);
+        })
     }
-}
 
-// What a query variable comes to.
-fn read_value(file: &[u8], w: &[u32], lay: Layout, hops: u32, x: u32) -> Found
-    ensures { result ≡ value_of hops file.now w.now lay x }
-{
-    match read_cell(w, lay, CellNumber(x)) {
-        Cell::Free => Found::Unbound(
-            CellNumber(x),
-            Held {
-                place: Place(0),
-                base: CellNumber(0),
-            },
-        ),
-        Cell::Bound(h) => follow(file, w, lay, hops, h),
-    }
-}
-
-// The value of a query variable.
-fn value(
-    file: &[u8],
-    w: &mut [u32],
-    out: &mut [u8],
-    lay: Layout,
-    limit: u32,
-    write: bool,
-    hops: u32,
-    t: Tally,
-    x: u32,
-) -> Tally
-    ensures { Value file.now lay limit write hops t x w.old out.old result w.new out.new }
-{
-    let found = read_value(file, w, lay, hops, x);
-    let start = Tally { due: 0, ..t };
-    let first = node(file, w, out, lay, limit, write, start, found);
-    nodes(file, w, out, lay, limit, write, hops, first)
-}
-
-// The values of all query variables in order, behind the first record.
-fn values(
-    file: &[u8],
-    w: &mut [u32],
-    out: &mut [u8],
-    lay: Layout,
-    limit: u32,
-    write: bool,
-    hops: u32,
-    variables: u32,
-) -> Tally
-    ensures { Values file.now lay limit write hops variables 0 none_yet w.old out.old result w.new out.new }
-{
-    let mut t = Tally {
-        size: ANSWER,
-        free: 0,
-        due: 0,
-        stop: 0,
-    };
-    let mut x = 0;
-    while x < variables {
-        if t.stop != 0 {
-            return t;
+    // A node that is a function applied: its record, and its arguments are due.
+    fn function_node<const WRITE: bool>(
+        &self,
+        w: &mut [u32],
+        out: &mut [u8],
+        t: Tally,
+        f: u32,
+        h: Held,
+    ) -> Result<Tally, Stopped>
+        ensures { FunctionNode self.now.file.now self.now.lay self.now.limit WRITE t f h w.old out.old result w.new out.new }
+    {
+        if out.len().saturating_sub(t.size) < APPLICATION {
+            return Err(Stopped {
+                end: End::Output,
+                tally: t,
+            });
         }
-        t = value(file, w, out, lay, limit, write, hops, t, x);
-        x += 1;
+        let arity = byte_at(self.file, 2 * f as usize + 1);
+        let due = add(t.due, arity);
+        if self.limit < due {
+            return Err(Stopped {
+                end: End::Work,
+                tally: t,
+            });
+        }
+        self.put_record::<WRITE>(out, t.size, Kind::Application, f);
+        put_arguments(
+            w,
+            self.lay,
+            t.due,
+            arity,
+            Place(on(h.place.0, APPLICATION)),
+            h.base,
+        );
+        Ok(Tally {
+            size: t.size + APPLICATION,
+            due,
+            ..t
+        })
     }
-    t
+
+    // A node of a value, by what following its term comes to.
+    fn node<const WRITE: bool>(
+        &self,
+        w: &mut [u32],
+        out: &mut [u8],
+        t: Tally,
+        found: Found,
+    ) -> Result<Tally, Stopped>
+        ensures { Node self.now.file.now self.now.lay self.now.limit WRITE t found w.old out.old result w.new out.new }
+    {
+        match found {
+            Found::Unbound(x, _) => self.free_node::<WRITE>(w, out, t, x),
+            Found::Function(f, h) => self.function_node::<WRITE>(w, out, t, f, h),
+        }
+    }
+
+    // The foremost node due, behind which so many more are.
+    fn next_node<const WRITE: bool>(
+        &self,
+        w: &mut [u32],
+        out: &mut [u8],
+        t: Tally,
+    ) -> Result<Tally, Stopped>
+        ensures { NextNode self.now.file.now self.now.lay self.now.limit WRITE self.now.hops t w.old out.old result w.new out.new }
+    {
+        let h = get_due(w, self.lay, t.due);
+        self.node::<WRITE>(w, out, t, follow(self.file, w, self.lay, self.hops, h))
+    }
+
+    // The rest of a value: its nodes due.
+    fn nodes<const WRITE: bool>(
+        &self,
+        w: &mut [u32],
+        out: &mut [u8],
+        first: Tally,
+    ) -> Result<Tally, Stopped>
+        ensures { Nodes self.now.file.now self.now.lay self.now.limit WRITE self.now.hops first w.old out.old result w.new out.new }
+    {
+        let mut t = first;
+        // Kept: what is due grows and shrinks, so no range goes over it.
+        while let Some(due) = t.due.checked_sub(1) {
+            t = self.next_node::<WRITE>(w, out, Tally { due, ..t })?;
+        }
+        Ok(t)
+    }
+
+    // What a query variable comes to.
+    #[tactic(auto, unfolding(crate::specs::Values::value_of, crate::specs::Values::cell_value))]
+    fn read_value(&self, w: &[u32], x: CellNumber) -> Found
+        ensures { result ≡ value_of self.now.hops self.now.file.now w.now self.now.lay x.0 }
+    {
+        match read_cell(w, self.lay, x) {
+            Cell::Free => Found::Unbound(
+                x,
+                Held {
+                    place: Place(0),
+                    base: CellNumber(0),
+                },
+            ),
+            Cell::Bound(h) => follow(self.file, w, self.lay, self.hops, h),
+        }
+    }
+
+    // The value of a query variable.
+    fn value<const WRITE: bool>(
+        &self,
+        w: &mut [u32],
+        out: &mut [u8],
+        t: Tally,
+        x: CellNumber,
+    ) -> Result<Tally, Stopped>
+        ensures { Value self.now.file.now self.now.lay self.now.limit WRITE self.now.hops t x.0 w.old out.old result w.new out.new }
+    {
+        let found = self.read_value(w, x);
+        let first = self.node::<WRITE>(w, out, Tally { due: 0, ..t }, found)?;
+        self.nodes::<WRITE>(w, out, first)
+    }
+
+    // The values of all query variables in order, behind the first record.
+    fn values<const WRITE: bool>(&self, w: &mut [u32], out: &mut [u8]) -> Result<Tally, Stopped>
+        ensures { Values self.now.file.now self.now.lay self.now.limit WRITE self.now.hops self.now.variables 0 none_yet w.old out.old result w.new out.new }
+    {
+        let mut t = Tally {
+            size: FIRST,
+            free: 0,
+            due: 0,
+        };
+        for x in 0..self.variables {
+            t = self.value::<WRITE>(w, out, t, CellNumber(x))?;
+        }
+        Ok(t)
+    }
 }
 
 // The first record of an answer: how many free variables and how many steps it has.
+#[tactic(auto, unfolding(crate::specs::Written::first_put))]
 fn put_first(out: &mut [u8], free: u32, steps: u32)
     ensures { out.new ≡ first_put free steps out.old }
 {
-    put_record(out, 0, 10, free);
+    put_record(out, 0, Kind::Answer, free);
     put_two(out, 3, steps);
 }
 
@@ -353,87 +325,60 @@ fn put_first(out: &mut [u8], free: u32, steps: u32)
 fn put_steps(w: &[u32], out: &mut [u8], lay: Layout, at: usize, steps: u32)
     ensures { out.new ≡ steps_put steps 0 lay w.now at out.old }
 {
-    let mut i = 0;
-    while i < steps {
-        let k = get(w, (lay.steps as usize) + 8 * (i as usize));
-        put_record(out, on(at, STEP * (i as usize)), 12, k);
-        i += 1;
+    for i in 0..steps {
+        let k = get(w, lay.steps as usize + 8 * i as usize);
+        put_record(out, on(at, STEP * i as usize), Kind::Step, k);
     }
 }
 
 // The records behind the values: one for each step, and the last.
+#[tactic(auto, unfolding(crate::specs::Written::last_put))]
 fn put_last(w: &[u32], out: &mut [u8], lay: Layout, at: usize, steps: u32)
     ensures { out.new ≡ last_put steps lay w.now at out.old }
 {
     put_steps(w, out, lay, at, steps);
-    put_byte(out, on(at, STEP * (steps as usize)), 13);
+    put(
+        out,
+        on(at, STEP * steps as usize),
+        u8::from(Kind::AnswerEnd),
+    );
 }
 
-// Measures the values of an answer: no byte is written.
-fn measure(
-    file: &[u8],
-    w: &mut [u32],
-    out: &mut [u8],
-    lay: Layout,
-    limit: u32,
-    variables: u32,
-    cells: u32,
-    hops: u32,
-) -> Tally
-    ensures { Measures file.now lay limit variables cells hops w.old out.old result w.new out.new }
-{
-    forget(w, lay, cells);
-    values(file, w, out, lay, limit, false, hops, variables)
-}
+impl Derivation<'_> {
+    // Measures the values of an answer: no byte is written.
+    fn measure(&self, w: &mut [u32], out: &mut [u8]) -> Result<Tally, Stopped>
+        ensures { Measures self.now.file.now self.now.lay self.now.limit self.now.variables self.now.cells self.now.hops w.old out.old result w.new out.new }
+    {
+        forget(w, self.lay, self.cells);
+        self.values::<false>(w, out)
+    }
 
-// Writes an answer that has been measured and fits.
-fn write_answer(
-    file: &[u8],
-    w: &mut [u32],
-    out: &mut [u8],
-    lay: Layout,
-    limit: u32,
-    variables: u32,
-    steps: u32,
-    hops: u32,
-    free: u32,
-)
-    ensures { Writes file.now lay limit variables steps hops free w.old out.old w.new out.new }
-{
-    put_first(out, free, steps);
-    let t = values(file, w, out, lay, limit, true, hops, variables);
-    put_last(w, out, lay, t.size, steps);
-}
+    // Writes an answer that has been measured and fits, with so many steps and free variables. Behind the values, as far as they came,
+    // stand the last records.
+    fn write(&self, w: &mut [u32], out: &mut [u8], free: u32)
+        ensures { Writes self.now.file.now self.now.lay self.now.limit self.now.variables self.now.steps self.now.hops free w.old out.old w.new out.new }
+    {
+        put_first(out, free, self.steps);
+        let t = self
+            .values::<true>(w, out)
+            .unwrap_or_else(|stopped| stopped.tally);
+        put_last(w, out, self.lay, t.size, self.steps);
+    }
 
-// Writes the answer that the cells and steps hold from the first byte of the output on, or stops and leaves no byte.
-pub fn answer(
-    file: &[u8],
-    w: &mut [u32],
-    out: &mut [u8],
-    lay: Layout,
-    limit: u32,
-    variables: u32,
-    cells: u32,
-    steps: u32,
-    hops: u32,
-) -> Wrote
-    ensures { Answers file.now lay limit variables cells steps hops w.old out.old result w.new out.new }
-{
-    if out.len() < ANSWER {
-        return Wrote::Full;
+    // Writes the answer that its cells and steps hold from the first byte of the output on, or stops and leaves no byte. The end that stops
+    // it is Output, where a record passes the room, or Work, where more nodes are due than the limit.
+    pub fn answer(&self, w: &mut [u32], out: &mut [u8]) -> Result<usize, End>
+        ensures { Answers self.now.file.now self.now.lay self.now.limit self.now.variables self.now.cells self.now.steps self.now.hops w.old out.old result w.new out.new }
+    {
+        if out.len() < FIRST {
+            return Err(End::Output);
+        }
+        let t = self.measure(w, out)?;
+        let rest = STEP * self.steps as usize + LAST;
+        if out.len().saturating_sub(t.size) < rest {
+            return Err(End::Output);
+        }
+        self.write(w, out, t.free);
+        Ok(t.size + rest)
     }
-    let t = measure(file, w, out, lay, limit, variables, cells, hops);
-    if t.stop == 25 {
-        return Wrote::Crowded;
-    }
-    if t.stop != 0 {
-        return Wrote::Full;
-    }
-    let rest = STEP * (steps as usize) + END;
-    if room_left(out.len(), t.size) < rest {
-        return Wrote::Full;
-    }
-    let size = t.size + rest;
-    write_answer(file, w, out, lay, limit, variables, steps, hops, t.free);
-    Wrote::Bytes(size)
 }

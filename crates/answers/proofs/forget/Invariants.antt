@@ -1,8 +1,6 @@
+use Rattle.std.proofs.Common.{◌≡◌}
+use Rattle.answers.specs.Values.{forgotten}
 use Rattle.answers.proofs.forget.Given as goal
-use Rattle.answers.proofs.Laws.{Forgetting}
 
-abbrev pub invariant-loop-left : goal.invariant-loop-left
-invariant-loop-left l = Forgetting l.lay l.cells l.initial.w l.left l.w
-
-abbrev pub decreases-loop-left : goal.decreases-loop-left
-decreases-loop-left l = l.left
+abbrev pub invariant-loop-x : goal.invariant-loop-x
+invariant-loop-x l = forgotten l.x l.lay l.w ≡ forgotten l.cells l.lay l.initial.w

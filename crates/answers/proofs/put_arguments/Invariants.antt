@@ -1,8 +1,6 @@
+use Rattle.std.proofs.Common.{◌≡◌}
+use Rattle.answers.specs.Values.{arguments_put}
 use Rattle.answers.proofs.put_arguments.Given as goal
-use Rattle.answers.proofs.Laws.{Arguing}
 
-abbrev pub invariant-loop-left : goal.invariant-loop-left
-invariant-loop-left l = Arguing l.lay l.due l.arity l.base l.initial.p l.initial.w l.left l.p l.w
-
-abbrev pub decreases-loop-left : goal.decreases-loop-left
-decreases-loop-left l = l.left
+abbrev pub invariant-loop-i : goal.invariant-loop-i
+invariant-loop-i l = arguments_put l.i l.due l.base.0 l.p.0 l.lay l.w ≡ arguments_put l.arity l.due l.base.0 l.initial.p.0 l.lay l.initial.w
