@@ -3,7 +3,7 @@
 use Prim.Native.Nat.{ℕ, zero, suc, ◌+◌, ◌*◌, ◌^◌, ◌≤◌, ◌<◌}
 use Rattle.std.proofs.Math.Path.{◌≡◌, refl, ap, sym, subst}
 use Rattle.std.proofs.Common.{ap₂, ◌∙◌, inl, inr, eqb-true, length-append, get_or-set_same}
-use Rattle.std.specs.Prelude.{Bool, eqb}
+use Rattle.std.specs.Prelude.{Bool, Result, Ok, Err, eqb}
 use Rattle.std.proofs.Math.Bool.{true, false}
 use mathlib.Core.List.{List, [], ◌∷◌, ◌++◌, map, append_assoc, append-nil}
 use Rattle.std.proofs.Math.Option.{some, some-injective}
@@ -18,6 +18,9 @@ use Rattle.meaning.specs.Store.{value}
 use Rattle.meaning.specs.Answers.{Answer, appears, index, renumbered, Piece, piece, two, write_each, write_step, pieces, bytes_of, bytes, fits, stops, fitting}
 use Rattle.meaning.specs.Moves.{Derivation, Choice, answer}
 use Rattle.meaning.specs.Call.{needed}
+use Rattle.meaning.specs.Outcome.{end_number}
+use Rattle.meaning.specs.declared.End.{End}
+use Rattle.meaning.specs.declared.End.TheVariants.{Output}
 use Rattle.demands.specs.Proofs.{Each}
 use Rattle.demands.specs.Order.{each_map}
 use Rattle.demands.specs.TermLaws.{In, Ins}
@@ -26,12 +29,11 @@ use Rattle.demands.specs.WellLaws.{well_in, store_bindings_good, value_good}
 use Rattle.layout.specs.Regions.{word, Keeps}
 use Rattle.search.specs.Search.{step_word}
 use Rattle.search.specs.declared.Regs.{Regs}
+use Rattle.answers.specs.declared.Stopped.{Stopped}
 use Rattle.answers.specs.declared.Tally.{Tally}
-use Rattle.answers.specs.declared.Wrote.{Wrote}
-use Rattle.answers.specs.declared.Wrote.TheVariants.{Bytes, Full, Crowded}
 use Rattle.answers.specs.Written.{first_put, last_put}
 use Rattle.answers.specs.Values.{forgotten, Values, none_yet}
-use Rattle.answers.specs.Answering.{last_size, Measures, Writes, records, Finishes, value_crowded, value_full, last_full, whole, Answers, first_full, measured, fit_of}
+use Rattle.answers.specs.Answering.{last_size, Measures, Writes, records, reached, Finishes, last_full, whole, Answers, first_full, values_stopped, measured, fit_of}
 use Rattle.answers.specs.Leaving.{values_measured}
 use Rattle.simulation.specs.Rep.{Setting, lay, layout_of, StepsAre}
 use Rattle.simulation.specs.Frames.{keeps_none, keeps_then, keeps_wider, set_keeps}
@@ -41,7 +43,7 @@ use Rattle.simulation.specs.Ranges.{in_range_is}
 use Rattle.simulation.specs.Asides.{Aside, aside_none, aside_list, stored_of, run_aside}
 use Rattle.simulation.specs.Numbers.{numbered_none, appears_again, appears_few, renumbered_appear}
 use Rattle.simulation.specs.Pieces.{put, bytes_join, sets_join, first_sets, tail, tail_length, FirstWords, last_sets, fitting_none, fitting_full, fitting_on, tail_fits, tail_full}
-use Rattle.simulation.specs.Walks.{Ends, went, halts, halts_stop, Counts, NumbersAre, At, Ground, values_walk}
+use Rattle.simulation.specs.Walks.{Ends, went, halts, Counts, NumbersAre, At, Ground, values_walk}
 
 -- ---- the variables of values
 values_in : (ν : ℕ → Term) (i n x : ℕ) → Ins x (values_from i n ν) → (y : ℕ) × (y < i + n) × In x (ν y)
@@ -92,9 +94,9 @@ unfolding answer
 answer_is X wanted room n = refl
 
 -- what the answer that was written is: it fits or stops as the definition's, its bytes are in the output or none is, and the run is as it was
-pub record Answered (X : Setting) (w : List ℕ) (m : Regs) (n : Derivation) (cs : List Choice) (o : List ℕ) (r : Wrote) (v p : List ℕ) : Type 0 where
+pub record Answered (X : Setting) (w : List ℕ) (m : Regs) (n : Derivation) (cs : List Choice) (o : List ℕ) (r : Result ℕ End) (v p : List ℕ) : Type 0 where
   pub fit : fit_of r ≡ fitting (length o) X.limits.work 0 (pieces (answer_of X n))
-  pub wrote : (k : ℕ) → r ≡ Bytes k → (k ≡ length (bytes (answer_of X n))) × (p ≡ bytes (answer_of X n) ++ drop (length (bytes (answer_of X n))) o)
+  pub wrote : (k : ℕ) → r ≡ Ok k → (k ≡ length (bytes (answer_of X n))) × (p ≡ bytes (answer_of X n) ++ drop (length (bytes (answer_of X n))) o)
   pub kept : (e : ℕ) → fit_of r ≡ stops e → p ≡ o
   pub aside : Aside X w v
   pub stands : Run X v m n cs
@@ -145,7 +147,7 @@ module _ (X : Setting) (w : List ℕ) (m : Regs) (n : Derivation) (cs : List Cho
   -- before the first value
   before_values : (b : Bool) (v seen : List ℕ) → Aside X w v → NumbersAre X n.cells v seen → Counts all b seen 0 → At X n.cells all b w none_yet v seen []ₜ
   unfolding count
-  before_values b v seen a k c = record { aside = a; numbers = k; counts = c; due = refl; within = omega arith; goods = tt; nodes = tt; going = refl }
+  before_values b v seen a k c = record { aside = a; numbers = k; counts = c; due = refl; within = omega arith; goods = tt; nodes = tt }
 
   -- nothing has a number yet
   start : At X n.cells all false w none_yet (forgotten m.cells (lay X) w) [] []ₜ
@@ -160,17 +162,17 @@ module _ (X : Setting) (w : List ℕ) (m : Regs) (n : Derivation) (cs : List Cho
       refl
 
   -- the values measured, and written
-  measured_walk : {t : Tally} {v o p : List ℕ} → 5 ≤ length o → length o < 2 ^ 63 → Measures X.file (lay X) W X.rules.variables m.cells m.trail w o t v p
-      → Ends false W 5 body o t p (At X n.cells all false w t v all []ₜ) (Aside X w v)
+  measured_walk : {r : Result Tally Stopped} {v o p : List ℕ} → 5 ≤ length o → length o < 2 ^ 63 → Measures X.file (lay X) W X.rules.variables m.cells m.trail w o r v p
+      → Ends false W 5 body o r p (λ t. At X n.cells all false w t v all []ₜ) (Aside X w v)
   unfolding all values body row
   measured_walk l big d = values_walk X n.store m.trail n.cells all false w ground d [] 0 X.rules.variables refl (omega arith) known.asks start ([], sym (append-nil all)) l big
 
-  written_walk : {t r : Tally} {v u o p : List ℕ} → 5 ≤ length o → length o < 2 ^ 63 → At X n.cells all false w t v all []ₜ → Values X.file (lay X) W true m.trail X.rules.variables 0 none_yet v o r u p
-      → Ends true W 5 body o r p (At X n.cells all true w r u all []ₜ) (Aside X w u)
+  written_walk : {t : Tally} {r : Result Tally Stopped} {v u o p : List ℕ} → 5 ≤ length o → length o < 2 ^ 63 → At X n.cells all false w t v all []ₜ → Values X.file (lay X) W true m.trail X.rules.variables 0 none_yet v o r u p
+      → Ends true W 5 body o r p (λ z. At X n.cells all true w z u all []ₜ) (Aside X w u)
   unfolding all values body row
   written_walk {r = r} {v = v} {u = u} {o = o} {p = p} l big a d =
       let again : appears all values ≡ all = appears_again values in
-      subst (λ (z : List ℕ). Ends true W 5 body o r p (At X n.cells all true w r u z []ₜ) (Aside X w u)) again
+      subst (λ (z : List ℕ). Ends true W 5 body o r p (λ y. At X n.cells all true w y u z []ₜ) (Aside X w u)) again
       (values_walk X n.store m.trail n.cells all true w ground d all 0 X.rules.variables refl (omega arith) known.asks (before_values true v all a.aside a.numbers refl) ([], sym (append-nil _ ∙ again)) l big)
 
   steps_small : Each (λ k. k < 65_536) n.steps
@@ -202,36 +204,38 @@ module _ (X : Setting) (w : List ℕ) (m : Regs) (n : Derivation) (cs : List Cho
       ap (fitting (length o) W 0) pieces_are ∙ fitting_on (length o) W 0 first 0 (body ++ tail n.steps) (omega arith) (omega arith)
       ∙ ap (λ (i : ℕ). fitting (length o) W i (body ++ tail n.steps)) (omega arith)
 
+  -- the values of an answer that is measured and fits, behind its first record
+  values_written : {t : Tally} {r : Result Tally Stopped} {v u p : List ℕ} (o : List ℕ) → At X n.cells all false w t v all []ₜ → 5 ≤ length o → length o < 2 ^ 63
+      → Values X.file (lay X) W true m.trail X.rules.variables 0 none_yet v (first_put t.free m.steps o) r u p → Ends true W 5 body (sets o 0 first) r p (λ z. At X n.cells all true w z u all []ₜ) (Aside X w u)
+  unfolding first two
+  values_written {t} {r} {v} {u} {p} o a l big d =
+      let b : t.free ≡ length all = a.counts in
+      let c = all_few in
+      let e = run.few_steps in
+      let f = run.steps.0 in
+      let y = (in_range_is X.limits X.in_limits).few_steps in
+      let k = length-sets o 0 first in
+      let before : first_put t.free m.steps o ≡ sets o 0 first = first_sets t.free m.steps o (omega arith) (omega arith) l big ∙ ap₂ (λ (i j : ℕ). sets o 0 (an_answer ∷ two i ++ two j)) b (sym f) in
+      written_walk (omega arith) (omega arith) a (subst (λ (z : List ℕ). Values X.file (lay X) W true m.trail X.rules.variables 0 none_yet v z r u p) before d)
+
   -- an answer that is measured and fits is written
   writes_are : {t : Tally} {v o u q : List ℕ} → At X n.cells all false w t v all []ₜ → t.size ≡ 5 + length (bytes_of body) → fitting (length o) W 5 (body ++ []) ≡ fits
       → t.size + (3 * m.steps + 1) ≤ length o → length o < 2 ^ 63 → Writes X.file (lay X) W X.rules.variables m.steps m.trail t.free v o u q → (q ≡ sets o 0 (bytes (answer_of X n))) × Aside X w u
-  unfolding first put when◌then◌else◌ two
-  writes_are {t} {v} {o} {u} a e f l big (records {t = r} {p = p} d) =
-      let k = length-sets o 0 first in
-      go (written_walk (omega arith) (omega arith) a (subst (λ (z : List ℕ). Values X.file (lay X) W true m.trail X.rules.variables 0 none_yet v z r u p) before d))
+  unfolding first put when◌then◌else◌ two reached
+  writes_are {o = o} {u} a e f l big (records {r} {p = p} d) = go (values_written o a (omega arith) big d)
     where
-      count : length n.steps ≡ m.steps
-      count = run.steps.0
-
-      before : first_put t.free m.steps o ≡ sets o 0 first
-      before =
-          let b : t.free ≡ length all = a.counts in
-          let c = all_few in
-          let d = run.few_steps in
-          let y = (in_range_is X.limits X.in_limits).few_steps in
-          first_sets t.free m.steps o (omega arith) (omega arith) (omega arith) big ∙ ap₂ (λ (i j : ℕ). sets o 0 (an_answer ∷ two i ++ two j)) b (sym count)
-
-      go : Ends true W 5 body (sets o 0 first) r p (At X n.cells all true w r u all []ₜ) (Aside X w u) → (last_put m.steps (lay X) u r.size p ≡ sets o 0 (bytes (answer_of X n))) × Aside X w u
-      go (halts b g x) =
-          let k : fitting (length o) W 5 (body ++ []) ≡ stops r.stop = subst (λ (i : ℕ). fitting i W 5 (body ++ []) ≡ stops r.stop) (length-sets o 0 first) (g []) in
+      go : Ends true W 5 body (sets o 0 first) r p (λ z. At X n.cells all true w z u all []ₜ) (Aside X w u) → (last_put m.steps (lay X) u (reached r).size p ≡ sets o 0 (bytes (answer_of X n))) × Aside X w u
+      go (halts {e = y} b c g x) =
+          let k : fitting (length o) W 5 (body ++ []) ≡ stops (end_number y.end) = subst (λ (i : ℕ). fitting i W 5 (body ++ []) ≡ stops (end_number y.end)) (length-sets o 0 first) (g []) in
           let z : ◌≡◌ {A = ℕ} 0 1 = cc in
           absurd (omega arith)
-      go (went b c h g x) =
+      go (went {t = s} k b c h g x) =
+          let j : (reached r).size ≡ 5 + length (bytes_of body) = ap (λ (z : Result Tally Stopped). (reached z).size) k ∙ b in
           let i = ap length h ∙ length-sets (sets o 0 first) 5 (bytes_of body) ∙ length-sets o 0 first in
-          let y = count in (
-            ap (λ (j : ℕ). last_put j (lay X) u r.size p) (sym count)
-                ∙ last_sets n.steps r.size (lay X) u p (steps_words X u n.steps m.steps (run_aside X x.aside known.sound known.store run).steps) steps_small (omega arith) (omega arith)
-                ∙ ap₂ (λ (j : ℕ) (z : List ℕ). sets z j (bytes_of (tail n.steps))) b h
+          let y = run.steps.0 in (
+            ap (λ (j : ℕ). last_put j (lay X) u (reached r).size p) (sym y)
+                ∙ last_sets n.steps (reached r).size (lay X) u p (steps_words X u n.steps m.steps (run_aside X x.aside known.sound known.store run).steps) steps_small (omega arith) (omega arith)
+                ∙ ap₂ (λ (j : ℕ) (z : List ℕ). sets z j (bytes_of (tail n.steps))) j h
                 ∙ sets_join (sets o 0 first) 5 (bytes_of body) (bytes_of (tail n.steps))
                 ∙ sets_join o 0 first (bytes_of body ++ bytes_of (tail n.steps))
                 ∙ ap (sets o 0) (sym bytes_are),
@@ -239,7 +243,7 @@ module _ (X : Setting) (w : List ℕ) (m : Regs) (n : Derivation) (cs : List Cho
           )
 
   -- an answer whose writing stops
-  stopped : {o v : List ℕ} {e : ℕ} (r : Wrote) → fit_of r ≡ stops e → fitting (length o) W 0 (pieces (answer_of X n)) ≡ stops e → Aside X w v → Answered X w m n cs o r v o
+  stopped : {o v : List ℕ} {e : ℕ} (r : Result ℕ End) → fit_of r ≡ stops e → fitting (length o) W 0 (pieces (answer_of X n)) ≡ stops e → Aside X w v → Answered X w m n cs o r v o
   unfolding fit_of
   stopped {e = e} r s f a = record {
     fit = s ∙ sym f;
@@ -250,36 +254,44 @@ module _ (X : Setting) (w : List ℕ) (m : Regs) (n : Derivation) (cs : List Cho
   }
 
   -- the answer that is written is the definition's
-  finishes_are : {t : Tally} {v u o q : List ℕ} {r : Wrote} → Ends false W 5 body o t o (At X n.cells all false w t v all []ₜ) (Aside X w v) → 5 ≤ length o → length o < 2 ^ 63
+  finishes_are : {t : Tally} {v u o q : List ℕ} {r : Result ℕ End} → Ends false W 5 body o (Ok t) o (λ z. At X n.cells all false w z v all []ₜ) (Aside X w v) → 5 ≤ length o → length o < 2 ^ 63
       → Finishes X.file (lay X) W X.rules.variables m.steps m.trail t v o r u q → Answered X w m n cs o r u q
-  unfolding fit_of
-  finishes_are (went e l h f a) small big (value_crowded s) = let z = a.going in absurd (omega arith)
-  finishes_are (went e l h f a) small big (value_full s z) = absurd (z a.going)
-  finishes_are {t} {o = o} (went e l h f a) small big (last_full s z) =
-      let y = run.steps.0 in
-      stopped Full refl (first_fits o small ∙ f (tail n.steps) ∙ tail_full (length o) W t.size n.steps l (omega arith)) a.aside
-  finishes_are {t} {u = u} {o = o} {q = q} (went e l h f a) small big (whole s z d) =
-      let y = run.steps.0 in
-      let b = bytes_length in
-      let x : (q ≡ sets o 0 (bytes (answer_of X n))) × Aside X w u = writes_are {o = o} a e (f [] ∙ fitting_none (length o) W t.size) z big d in
-      let i : 0 + length (bytes (answer_of X n)) ≡ length (bytes (answer_of X n)) = omega arith in
-      record {
-        fit = sym (first_fits o small ∙ f (tail n.steps) ∙ tail_fits (length o) W t.size n.steps (omega arith));
-        wrote = λ k g. let c : t.size + last_size m.steps ≡ k = cc in (omega arith, x.0 ∙ sets-eq (bytes (answer_of X n)) o 0 (omega arith) ∙ ap (λ (j : ℕ). bytes (answer_of X n) ++ drop j o) i);
-        kept = λ i g. let z : ◌≡◌ {A = ℕ} 0 1 = cc in absurd (omega arith);
-        aside = x.1;
-        stands = run_aside X x.1 known.sound known.store run;
-      }
-  finishes_are {o = o} (halts e f a) small big (value_crowded s) = stopped Crowded refl (first_fits o small ∙ f (tail n.steps) ∙ ap stops s) a
-  finishes_are {o = o} (halts (inl e) f a) small big (value_full s z) = absurd (s e)
-  finishes_are {o = o} (halts (inr e) f a) small big (value_full s z) = stopped Full refl (first_fits o small ∙ f (tail n.steps) ∙ ap stops e) a
-  finishes_are (halts e f a) small big (last_full s z) = absurd (halts_stop e s)
-  finishes_are (halts e f a) small big (whole s z d) = absurd (halts_stop e s)
+  unfolding fit_of end_number
+  finishes_are {t} {v} {u} {o} {q} {r} (went {t = s} k e l h f a) small big d = go r u q (subst (λ (z : Tally). Finishes X.file (lay X) W X.rules.variables m.steps m.trail z v o r u q) is d)
+    where
+      is : t ≡ s
+      is = cc
 
-  pub answers_are : {v o p : List ℕ} {r : Wrote} → length o < 2 ^ 63 → Answers X.file (lay X) W X.rules.variables m.cells m.steps m.trail w o r v p → Answered X w m n cs o r v p
+      go : (r : Result ℕ End) (u q : List ℕ) → Finishes X.file (lay X) W X.rules.variables m.steps m.trail s v o r u q → Answered X w m n cs o r u q
+      go r u q (last_full z) = let y = run.steps.0 in stopped (Err Output) refl (first_fits o small ∙ f (tail n.steps) ∙ tail_full (length o) W s.size n.steps l (omega arith)) a.aside
+      go r u q (whole z d) =
+          let y = run.steps.0 in
+          let b = bytes_length in
+          let x : (q ≡ sets o 0 (bytes (answer_of X n))) × Aside X w u = writes_are {o = o} a e (f [] ∙ fitting_none (length o) W s.size) z big d in
+          let i : 0 + length (bytes (answer_of X n)) ≡ length (bytes (answer_of X n)) = omega arith in
+          record {
+            fit = sym (first_fits o small ∙ f (tail n.steps) ∙ tail_fits (length o) W s.size n.steps (omega arith));
+            wrote = λ k g. let c : s.size + last_size m.steps ≡ k = cc in (omega arith, x.0 ∙ sets-eq (bytes (answer_of X n)) o 0 (omega arith) ∙ ap (λ (j : ℕ). bytes (answer_of X n) ++ drop j o) i);
+            kept = λ i g. let z : ◌≡◌ {A = ℕ} 0 1 = cc in absurd (omega arith);
+            aside = x.1;
+            stands = run_aside X x.1 known.sound known.store run;
+          }
+  finishes_are (halts k e f a) small big d = let z : ◌≡◌ {A = ℕ} 0 1 = cc in absurd (omega arith)
+
+  -- one that stops in its values does too
+  halts_are : {v o : List ℕ} {e : Stopped} → Ends false W 5 body o (Err e) o (λ z. At X n.cells all false w z v all []ₜ) (Aside X w v) → 5 ≤ length o → Answered X w m n cs o (Err e.end) v o
   unfolding fit_of
-  answers_are {o = o} big (first_full h) = let e = first_length in stopped Full refl (ap (fitting (length o) W 0) pieces_are ∙ fitting_full (length o) W 0 first 0 (body ++ tail n.steps) (omega arith)) (aside_none X w)
+  halts_are (went k e l h f a) small = let z : ◌≡◌ {A = ℕ} 0 1 = cc in absurd (omega arith)
+  halts_are {o = o} {e} (halts {e = y} k b f a) small = let is : e ≡ y = cc in stopped (Err e.end) (ap (λ (z : Stopped). stops (end_number z.end)) is) (first_fits o small ∙ f (tail n.steps)) a
+
+  pub answers_are : {v o p : List ℕ} {r : Result ℕ End} → length o < 2 ^ 63 → Answers X.file (lay X) W X.rules.variables m.cells m.steps m.trail w o r v p → Answered X w m n cs o r v p
+  unfolding fit_of end_number
+  answers_are {o = o} big (first_full h) =
+      let e = first_length in stopped (Err Output) refl (ap (fitting (length o) W 0) pieces_are ∙ fitting_full (length o) W 0 first 0 (body ++ tail n.steps) (omega arith)) (aside_none X w)
+  answers_are {v} {o} {p} big (values_stopped {e} h d) =
+      let k : p ≡ o = values_measured d in
+      subst (Answered X w m n cs o (Err e.end) v) (sym k) (halts_are (subst (λ (z : List ℕ). Ends false W 5 body o (Err e) z (λ t. At X n.cells all false w t v all []ₜ) (Aside X w v)) k (measured_walk h big d)) h)
   answers_are {v} {o} {p} {r} big (measured {t} {v = x} {p = y} h d f) =
       let e : y ≡ o = values_measured d in
-      finishes_are (subst (λ (z : List ℕ). Ends false W 5 body o t z (At X n.cells all false w t x all []ₜ) (Aside X w x)) e (measured_walk h big d)) h big
+      finishes_are (subst (λ (z : List ℕ). Ends false W 5 body o (Ok t) z (λ i. At X n.cells all false w i x all []ₜ) (Aside X w x)) e (measured_walk h big d)) h big
       (subst (λ (z : List ℕ). Finishes X.file (lay X) W X.rules.variables m.steps m.trail t x z r v p) e f)

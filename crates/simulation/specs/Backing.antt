@@ -1,7 +1,7 @@
 -- Going back comes to what the definition's failure comes to.
 -- Assumes nothing.
 use Prim.Native.Nat.{ℕ, zero, suc, ◌+◌, ◌-◌, ◌*◌, ◌≤◌, ◌<◌}
-use Rattle.std.specs.Prelude.{◌≡◌, ltb, length}
+use Rattle.std.specs.Prelude.{◌≡◌, ltb, length, Some, None}
 use Rattle.std.proofs.Math.Path.{refl, subst}
 use Rattle.std.proofs.Common.{ap₂, sym, ◌∙◌, inl, inr, lt-ltb}
 use mathlib.Core.List.{List, [], ◌∷◌}
@@ -19,6 +19,8 @@ use Rattle.layout.specs.Tables.{Chain}
 use Rattle.cells.specs.Cells.{undone}
 use Rattle.search.specs.Search.{step_word, step_next, clause_next_word, below_of, rest_word, retried, Backs, no_choice, retries, pops}
 use Rattle.search.specs.declared.Regs.{Regs}
+use Rattle.search.proofs.Laws.{numbered_none, numbered_some}
+use Rattle.meaning.specs.declared.ClauseNumber.{ClauseNumber}
 use Rattle.search.specs.declared.Due.{Due}
 use Rattle.simulation.specs.Rep.{Setting, lay, layout_of, Base, StoreIs, ChoicesAre, no_choices, choices, bindings, Older}
 use Rattle.simulation.specs.Frames.{SameSteps, SameTables, choices_same}
@@ -83,11 +85,11 @@ module _ (X : Setting) (fits : length X.rules.predicates + 2 * length X.rules.cl
 
   -- its next clause is tried
   retry_is : (w v : List ℕ) (m : Regs) (i : ℕ) (s : Store) (u : ℕ) (ks : List Numbered) (g : Call) (n : Derivation) (cs : List Choice) (d : Done) → i < X.limits.steps → m.units ≡ d.units
-      → Gone w m.units i s u ks g n cs v → ChoicesAre X v s u (suc i) (choice ks g n ∷ cs) → 0 < (rest_word v (lay X) (suc i)).clause
-      → DueIs X v wanted room d (retried v (lay X) m (step_word w (lay X) (suc i) 6) (suc i) i (rest_word v (lay X) (suc i)).prior ((rest_word v (lay X) (suc i)).clause - 1)) (fail (choice ks g n ∷ cs) d)
+      → Gone w m.units i s u ks g n cs v → ChoicesAre X v s u (suc i) (choice ks g n ∷ cs) → (j : ClauseNumber) → (rest_word v (lay X) (suc i)).clause ≡ Some j
+      → DueIs X v wanted room d (retried v (lay X) m (step_word w (lay X) (suc i) 6) (suc i) i (rest_word v (lay X) (suc i)).prior j.0) (fail (choice ks g n ∷ cs) d)
   unfolding rest_word retried fail step_next
-  retry_is w v m i s u [] g n cs d l units gone (choices _ chain known numbers goal goals less links settled cells trail prior steps older fewer rest) h = absurd (omega arith)
-  retry_is w v m i s u (k ∷ ks) g n cs d l units gone (choices _ chain known numbers goal goals less links settled cells trail prior steps older fewer rest) h =
+  retry_is w v m i s u [] g n cs d l units gone (choices _ chain known numbers goal goals less links settled cells trail prior steps older fewer rest) j h = let e = numbered_some _ j h in absurd (omega arith)
+  retry_is w v m i s u (k ∷ ks) g n cs d l units gone (choices _ chain known numbers goal goals less links settled cells trail prior steps older fewer rest) j h =
       let p : below_of (step_word v (lay X) (suc i) 7) (suc i) ≡ step_word v (lay X) (suc i) 7 = prior_is _ i prior in
       is_try (record {
         run = record {
@@ -98,7 +100,7 @@ module _ (X : Setting) (fits : length X.rules.predicates + 2 * length X.rules.cl
           choices = subst (λ (c : ℕ). ChoicesAre X v n.store n.cells c cs) (sym p) rest;
           choice = rw p prior;
         };
-        clause = number_is chain.0;
+        clause = number_is chain.0 (numbered_some _ j h);
         place = chain.1;
         number = numbers.0;
         chain = chain_is chain.0 chain.2;
@@ -107,21 +109,21 @@ module _ (X : Setting) (fits : length X.rules.predicates + 2 * length X.rules.cl
         next = record { goals = goals; step = less; links = rw p links; settled = settled };
       }) units
     where
-      number_is : clause_next_word v (lay X) (step_word v (lay X) (suc i) 0) ≡ suc k.number → clause_next_word v (lay X) (step_word v (lay X) (suc i) 0) - 1 ≡ k.number
-      number_is e = omega arith
+      number_is : clause_next_word v (lay X) (step_word v (lay X) (suc i) 0) ≡ suc k.number → clause_next_word v (lay X) (step_word v (lay X) (suc i) 0) ≡ suc j.0 → j.0 ≡ k.number
+      number_is e f = omega arith
 
       chain_is : clause_next_word v (lay X) (step_word v (lay X) (suc i) 0) ≡ suc k.number → Chain v (length X.file) (length X.rules.predicates) X.rules (word v (next_at (length X.file) (length X.rules.predicates) k.number)) ks
           → Chain v (length X.file) (length X.rules.predicates) X.rules (clause_next_word v (lay X) k.number) ks
       chain_is e c = subst (λ (x : ℕ). Chain v (length X.file) (length X.rules.predicates) X.rules x ks) (next_word v k.number) c
 
   -- it has no clause left
-  popped : (v : List ℕ) (i : ℕ) (s : Store) (u : ℕ) (ks : List Numbered) (g : Call) (n : Derivation) (cs : List Choice) → ChoicesAre X v s u (suc i) (choice ks g n ∷ cs) → (rest_word v (lay X) (suc i)).clause ≤ 0
+  popped : (v : List ℕ) (i : ℕ) (s : Store) (u : ℕ) (ks : List Numbered) (g : Call) (n : Derivation) (cs : List Choice) → ChoicesAre X v s u (suc i) (choice ks g n ∷ cs) → (rest_word v (lay X) (suc i)).clause ≡ None
       → (ks ≡ []) × ChoicesAre X v n.store n.cells (rest_word v (lay X) (suc i)).prior cs × ((rest_word v (lay X) (suc i)).prior ≤ i)
   unfolding rest_word
   popped v i s u [] g n cs (choices _ chain known numbers goal goals less links settled cells trail prior steps older fewer rest) h =
       let p : below_of (step_word v (lay X) (suc i) 7) (suc i) ≡ step_word v (lay X) (suc i) 7 = prior_is _ i prior in
       (refl, subst (λ (c : ℕ). ChoicesAre X v n.store n.cells c cs) (sym p) rest, rw p prior)
-  popped v i s u (k ∷ ks) g n cs (choices _ chain known numbers goal goals less links settled cells trail prior steps older fewer rest) h = let e = chain.0 in absurd (omega arith)
+  popped v i s u (k ∷ ks) g n cs (choices _ chain known numbers goal goals less links settled cells trail prior steps older fewer rest) h = let e = chain.0 in let z = numbered_none _ h in absurd (omega arith)
 
   pub backs_fail : (m : Regs) {trail c : ℕ} {w v : List ℕ} {r : Due} → Backs (lay X) m trail c w r v → (s : Store) (u : ℕ) (cs : List Choice) (d : Done) → StoreRep X w s u trail m.units → Sound s → Within X s
       → ChoicesAre X w s u c cs → SoundAll X cs → c ≤ X.limits.steps → m.units ≡ d.units → DueIs X v wanted room d r (fail cs d)
@@ -129,10 +131,10 @@ module _ (X : Setting) (fits : length X.rules.predicates + 2 * length X.rules.cl
   backs_fail m (no_choice h) s u _ d rep so wi no_choices al l un = is_over NoMore un
   backs_fail m (no_choice h) s u _ d rep so wi (choices i chain known numbers goal goals less links settled cells trail prior steps older fewer rest) al l un = absurd (omega arith)
   backs_fail m (retries h e k) s u _ d rep so wi no_choices al l un = absurd (omega arith)
-  backs_fail m (retries {trail = trail} {w = w} {v = v} h e k) s u _ d rep so wi (choices i {ks} {g} {n} {cs} chain known numbers goal goals less links settled cells mark prior steps older fewer rest) al l un =
+  backs_fail m (retries {trail = trail} {w = w} {v = v} {k = j} h e k) s u _ d rep so wi (choices i {ks} {g} {n} {cs} chain known numbers goal goals less links settled cells mark prior steps older fewer rest) al l un =
       let G = gone w v m.units trail i s u ks g n cs rep so wi (choices i chain known numbers goal goals less links settled cells mark prior steps older fewer rest) fewer mark older e in
       let z : suc i - 1 ≡ i = omega arith in
-      rw z (retry_is w v m i s u ks g n cs d (omega arith) un G G.all k)
+      rw z (retry_is w v m i s u ks g n cs d (omega arith) un G G.all j k)
   backs_fail m (pops h e k b) s u _ d rep so wi no_choices al l un = absurd (omega arith)
   backs_fail m (pops {trail = trail} {w = w} {v = v} {u = x} {d = r} h e k b) s u _ d rep so wi (choices i {ks} {g} {n} {cs} chain known numbers goal goals less links settled cells mark prior steps older fewer rest) (more so' wi' few al) l un =
       let G = gone w v m.units trail i s u ks g n cs rep so wi (choices i chain known numbers goal goals less links settled cells mark prior steps older fewer rest) fewer mark older e in

@@ -22,8 +22,8 @@ use Rattle.layout.specs.Standing.{StandsClause}
 use Rattle.layout.specs.Regions.{word, Keeps}
 use Rattle.layout.specs.Tables.{Chain}
 use Rattle.words.specs.Words.{plus}
-use Rattle.cells.specs.Cells.{freed}
-use Rattle.matching.specs.Matching.{place_after, past_kind}
+use Rattle.cells.specs.Cells.{freed, place_after}
+use Rattle.matching.specs.Matching.{past_kind}
 use Rattle.search.specs.Search.{step_word, step_put, clause_next_word, arity_at, paired, entered_regs, settled_next}
 use Rattle.search.specs.declared.Regs.{Regs}
 use Rattle.search.specs.declared.Trial.{Trial}

@@ -1,7 +1,7 @@
 -- Following what is held, hop by hop, comes to what the store says.
 -- Assumes nothing.
 use Prim.Native.Nat.{ℕ, zero, suc, ◌+◌, ◌≤◌, ◌<◌}
-use Rattle.std.specs.Prelude.{◌≡◌, refl, ◌≢◌, ◌⊎◌, Bool, true, false, List, eqb}
+use Rattle.std.specs.Prelude.{◌≡◌, refl, ◌≢◌, ◌⊎◌, Bool, true, false, List, Result, Ok, Err, eqb}
 use Rattle.std.proofs.Math.Path.{ap, sym, subst}
 use Rattle.std.proofs.Common.{◌∙◌, inl, inr, arith}
 use borrow.Author.Tests.{eqb-true, eqb-false, eq-eqb, ne_eqb}
@@ -27,8 +27,6 @@ use Rattle.cells.specs.declared.Node.{Node}
 use Rattle.cells.specs.declared.Node.TheVariants.{Variable, Applied}
 use Rattle.cells.specs.declared.Found.{Found}
 use Rattle.cells.specs.declared.Found.TheVariants.{Unbound, Function}
-use Rattle.cells.specs.declared.Hop.{Hop}
-use Rattle.cells.specs.declared.Hop.TheVariants.{Stop, Go}
 use Rattle.simulation.specs.Places.{IsHeld}
 use Rattle.simulation.specs.Rep.{Setting, lay, StoreIs, FreeIs, bindings}
 use Rattle.simulation.specs.PlaceLaws.{terms_stand}
@@ -285,9 +283,9 @@ module _ (X : Setting) (n : ℕ) (few : n ≤ 60_000) where
 -- ---- following
 module _ (X : Setting) (w : List ℕ) (k n : ℕ) (s : Store) (c : Stored X w k n s) where
   -- where a hop comes to
-  abbrev HopIs : Hop → Term → Type 0
-  HopIs (Stop f) t = FoundIs X.rules f (follow s t)
-  HopIs (Go h) t = (u : Term) × IsHeld X.rules h u × Good X.rules.functions n u × (follow s t ≡ follow s u) × (hops s t ≡ suc (hops s u))
+  abbrev HopIs : Result Found Held → Term → Type 0
+  HopIs (Ok f) t = FoundIs X.rules f (follow s t)
+  HopIs (Err h) t = (u : Term) × IsHeld X.rules h u × Good X.rules.functions n u × (follow s t ≡ follow s u) × (hops s t ≡ suc (hops s u))
 
   hop_held : (h : Held) (t : Term) → IsHeld X.rules h t → Good X.rules.functions n t → HopIs (hop_of X.file w (lay X) h) t
   unfolding hop_of hop_node hop_cell cell_at cell_of
@@ -314,15 +312,15 @@ module _ (X : Setting) (w : List ℕ) (k n : ℕ) (s : Store) (c : Stored X w k 
   unfolding followed hopped
   follows_within zero h t i g l = go (hop_of X.file w (lay X) h) (hop_held h t i g)
     where
-      go : (o : Hop) → HopIs o t → FoundIs X.rules (hopped (λ a. Function 0 h) o) (follow s t)
-      go (Stop f) e = e
-      go (Go a) e = let q : hops s t ≡ suc (hops s e.0) = e.4 in absurd (omega arith)
+      go : (o : Result Found Held) → HopIs o t → FoundIs X.rules (hopped (λ a. Function 0 h) o) (follow s t)
+      go (Ok f) e = e
+      go (Err a) e = let q : hops s t ≡ suc (hops s e.0) = e.4 in absurd (omega arith)
   follows_within (suc m) h t i g l = go (hop_of X.file w (lay X) h) (hop_held h t i g) (follows_within m)
     where
-      go : (o : Hop) → HopIs o t → ((h : Held) (t : Term) → IsHeld X.rules h t → Good X.rules.functions n t → hops s t ≤ m → FoundIs X.rules (followed m X.file w (lay X) h) (follow s t))
+      go : (o : Result Found Held) → HopIs o t → ((h : Held) (t : Term) → IsHeld X.rules h t → Good X.rules.functions n t → hops s t ≤ m → FoundIs X.rules (followed m X.file w (lay X) h) (follow s t))
           → FoundIs X.rules (hopped (followed m X.file w (lay X)) o) (follow s t)
-      go (Stop f) e ih = e
-      go (Go a) e ih =
+      go (Ok f) e ih = e
+      go (Err a) e ih =
           let q : hops s t ≡ suc (hops s e.0) = e.4 in
           subst (FoundIs X.rules (followed m X.file w (lay X) a)) (sym e.3) (ih a e.0 e.1 e.2 (omega arith))
 

@@ -9,12 +9,11 @@ use Rattle.std.proofs.Math.ListN.{length-set}
 use Rattle.std.proofs.lemmas.Bool.{eqb-false}
 use Rattle.meaning.specs.Call.{needed}
 use Rattle.layout.specs.Regions.{word, Keeps}
-use Rattle.words.specs.Words.{plus}
-use Rattle.cells.specs.Cells.{freed}
+use Rattle.words.specs.Words.{plus, put_four}
+use Rattle.cells.specs.Cells.{freed, word_of_place}
 use Rattle.search.specs.Search.{step_word, step_put}
 use Rattle.search.specs.declared.Regs.{Regs}
 use Rattle.search.specs.declared.Trial.{Trial}
-use Rattle.matching.specs.Matching.{put_four, word_of_place}
 use Rattle.simulation.specs.Rep.{Setting, lay, layout_of, Base}
 use Rattle.simulation.specs.Ranges.{in_range_is}
 use Rattle.simulation.specs.Frames.{keeps_then, keeps_wider}

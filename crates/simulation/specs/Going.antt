@@ -15,7 +15,7 @@ use Rattle.demands.specs.GoodFiles.{index_less}
 use Rattle.layout.specs.Regions.{word, after_at, first_at}
 use Rattle.layout.specs.Tables.{Chain}
 use Rattle.words.specs.Words.{ahead}
-use Rattle.matching.specs.Matching.{place_after}
+use Rattle.cells.specs.Cells.{place_after}
 use Rattle.search.specs.Search.{step_word, clause_next_word, trial_of, Calls, no_clause, first_clause, GoesOn, a_cut as CutMove, no_goal as AnswerMove, a_goal as GoalMove}
 use Rattle.search.specs.declared.Regs.{Regs}
 use Rattle.search.specs.declared.Due.{Due}

@@ -2,7 +2,7 @@
 -- Assumes nothing.
 use Prim.Native.Nat.{ℕ, suc, ◌+◌, ◌*◌, ◌^◌, ◌≤◌, ◌<◌}
 use Rattle.std.proofs.Math.Path.{◌≡◌, ap}
-use Rattle.std.specs.Prelude.{refl, ◌≢◌, ◌⊎◌, Bool, true, false, eqb, get_or, set}
+use Rattle.std.specs.Prelude.{refl, ◌≢◌, ◌⊎◌, Bool, true, false, Option, Some, None, eqb, get_or, set}
 use Rattle.std.proofs.Common.{sym, subst, ◌∙◌, inl, inr, ⊎_elim, length-set, get_or-set_same, get_or-set_other, eqb-true, eq-eqb, ne_eqb}
 use mathlib.Core.List.{List}
 use Rattle.std.proofs.Math.ListN.{length}
@@ -26,7 +26,6 @@ use Rattle.words.specs.Words.{plus, ahead}
 use Rattle.cells.specs.Cells.{cell_of, cell_at, width_of, Visit, same, free, known, listed, Meet, variable, function, Scan, over, met, on, ScanHeld, LookInto, was_free, was_bound, Looks, all, found, none, next, Inside, looks}
 use Rattle.cells.specs.declared.Held.{Held}
 use Rattle.cells.specs.declared.Cell.TheVariants.{Free as Unset, Bound}
-use Rattle.cells.specs.declared.Seen.{Seen}
 use Rattle.simulation.specs.Places.{IsHeld}
 use Rattle.simulation.specs.Rep.{Setting, layout_of, lay, Base, StoreIs, MarksAre, bindings}
 use Rattle.simulation.specs.PlaceLaws.{terms_stand, terms_end, terms_after}
@@ -330,14 +329,15 @@ module _ (X : Setting) (w : List ℕ) (k n : ℕ) (s : Store) (x stamp : ℕ) (q
     }
 
   -- ---- a variable is met
-  -- the cells listed once something was passed: x was found inside, or P holds of the words
-  abbrev Passed : (List ℕ → Type 0) → ℕ → List ℕ → Seen → List ℕ → Type 0
-  Passed P m v r u = Listing r.count u × (((r.met ≡ true) × In x (inst (value s) t₀)) ⊎ ((r.met ≡ false) × Grows m v r.count u × P u))
+  -- what is known once something was passed: x was found inside, with some cells listed, or P holds of the words
+  abbrev Passed : (List ℕ → Type 0) → ℕ → List ℕ → Option ℕ → List ℕ → Type 0
+  Passed P m v None u = (i : ℕ) × Listing i u × In x (inst (value s) t₀)
+  Passed P m v (Some i) u = Listing i u × Grows m v i u × P u
 
-  visited : {m y : ℕ} {v u : List ℕ} {r : Seen} → Listing m v → y < n → Leads y → Visit (lay X) stamp x y m v r u → Passed (λ z. Clear s x (Marked z) y) m v r u
-  visited l b h (same e) = (l, inl (refl, h (subst (λ (z : ℕ). In x (value s z)) (sym e) (subst (In x) (sym (value_free s x q.free)) refl))))
-  visited {m} {y} {v} l b h (free o z) = (l, inr (refl, grows_none m v, (o, inl (zero_free y (sym (cell_kept l y b) ∙ z)))))
-  visited {m} {y} {v} l b h (known o z e) = (l, inr (refl, grows_none m v, (o, inr (b, e))))
+  visited : {m y : ℕ} {v u : List ℕ} {r : Option ℕ} → Listing m v → y < n → Leads y → Visit (lay X) stamp x y m v r u → Passed (λ z. Clear s x (Marked z) y) m v r u
+  visited {m} l b h (same e) = (m, l, h (subst (λ (z : ℕ). In x (value s z)) (sym e) (subst (In x) (sym (value_free s x q.free)) refl)))
+  visited {m} {y} {v} l b h (free o z) = (l, grows_none m v, (o, inl (zero_free y (sym (cell_kept l y b) ∙ z))))
+  visited {m} {y} {v} l b h (known o z e) = (l, grows_none m v, (o, inr (b, e)))
   visited {m} {y} {v} l b h (listed o z e) =
       let taken : ¬ Free y s = λ f. z (cell_kept l y b ∙ q.stored.free y b f) in
       let a : m < k = one_more m v l y b taken h e in
@@ -345,36 +345,34 @@ module _ (X : Setting) (w : List ℕ) (k n : ℕ) (s : Store) (x stamp : ℕ) (q
       let f : n ≤ 60_000 = q.stored.few in
       let d : plus m 1 ≡ suc m = plus_small m 1 (omega arith) ∙ omega arith in
       let g : Grows m v (suc m) (after m v l y b taken h e) = grows_listed m v l y b taken h e in
-      (rw d (listing_more m v l y b taken h e), inr (refl, rw d g, (o, inr (b, mark_after m v l y b taken h e))))
+      (rw d (listing_more m v l y b taken h e), rw d g, (o, inr (b, mark_after m v l y b taken h e)))
 
   -- ---- a term is passed, record by record
   module _ (b end : ℕ) where
-    abbrev Scanned : ℕ → ℕ → List ℕ → Seen → List ℕ → Type 0
+    abbrev Scanned : ℕ → ℕ → List ℕ → Option ℕ → List ℕ → Type 0
     Scanned = Scan X.file (lay X) stamp x b end
 
     -- x was met, or the place p is come to with P
-    abbrev Comes : (List ℕ → Type 0) → ℕ → ℕ → List ℕ → Seen → List ℕ → Type 0
-    Comes P p m v r u = (Listing r.count u × (r.met ≡ true) × In x (inst (value s) t₀)) ⊎ ((i : ℕ) × (z : List ℕ) × Listing i z × Grows m v i z × P z × Scanned p i z r u)
+    abbrev Comes : (List ℕ → Type 0) → ℕ → ℕ → List ℕ → Option ℕ → List ℕ → Type 0
+    Comes P p m v r u = ((r ≡ None) × (i : ℕ) × Listing i u × In x (inst (value s) t₀)) ⊎ ((i : ℕ) × (z : List ℕ) × Listing i z × Grows m v i z × P z × Scanned p i z r u)
 
     -- a record is met first, and it is the last one met or the scan goes on
-    record First (p m : ℕ) (v : List ℕ) (r : Seen) (u : List ℕ) : Type 0 where
-      seen : Seen
-      words : List ℕ
-      meets : Meet X.file (lay X) stamp x b p m v seen words
-      rest : ((seen.met ≡ true) × (r ≡ seen) × (u ≡ words)) ⊎ ((seen.met ≡ false) × Scanned (p + width_of X.file p) seen.count words r u)
+    data First (p m : ℕ) (v : List ℕ) : Option ℕ → List ℕ → Type 0 where
+      last : {u : List ℕ} → Meet X.file (lay X) stamp x b p m v None u → First p m v None u
+      more : {i : ℕ} {z u : List ℕ} {r : Option ℕ} → Meet X.file (lay X) stamp x b p m v (Some i) z → Scanned (p + width_of X.file p) i z r u → First p m v r u
 
-    scan_step : {p m : ℕ} {v u : List ℕ} {r : Seen} → p < end → Scanned p m v r u → First p m v r u
+    scan_step : {p m : ℕ} {v u : List ℕ} {r : Option ℕ} → p < end → Scanned p m v r u → First p m v r u
     scan_step h (over l) = absurd (omega arith)
-    scan_step h (met {v = z} {s = t} l j o) = record { seen = t; words = z; meets = j; rest = inl (o, refl, refl) }
-    scan_step h (on {v = z} {s = t} l j o g) = record { seen = t; words = z; meets = j; rest = inr (o, g) }
+    scan_step h (met l j) = last j
+    scan_step h (on l j g) = more j g
 
-    scan_over : {p m : ℕ} {v u : List ℕ} {r : Seen} → end ≤ p → Scanned p m v r u → (r ≡ record { met = false; count = m }) × (u ≡ v)
+    scan_over : {p m : ℕ} {v u : List ℕ} {r : Option ℕ} → end ≤ p → Scanned p m v r u → (r ≡ Some m) × (u ≡ v)
     scan_over h (over l) = (refl, refl)
-    scan_over h (met l j o) = absurd (omega arith)
-    scan_over h (on l j o g) = absurd (omega arith)
+    scan_over h (met l j) = absurd (omega arith)
+    scan_over h (on l j g) = absurd (omega arith)
 
     -- a variable over the cells from b on
-    pass_variable : {p m y : ℕ} {v u : List ℕ} {r : Seen} → p < end → byte X.file p ≡ a_variable → byte X.file (p + 1) ≡ y → b + y < n → Leads (b + y) → Listing m v → Scanned p m v r u
+    pass_variable : {p m y : ℕ} {v u : List ℕ} {r : Option ℕ} → p < end → byte X.file p ≡ a_variable → byte X.file (p + 1) ≡ y → b + y < n → Leads (b + y) → Listing m v → Scanned p m v r u
         → Comes (λ z. Clear s x (Marked z) (b + y)) (p + 2) m v r u
     unfolding width_of
     pass_variable {p} {m} {y} {v} {u} {r} c e f h d l g = go (scan_step c g)
@@ -388,40 +386,34 @@ module _ (X : Setting) (w : List ℕ) (k n : ℕ) (s : Store) (x stamp : ℕ) (q
         width : width_of X.file p ≡ 2
         width = if_true _ 2 3 (eq-eqb _ _ e)
 
-        meets : {t : Seen} {z : List ℕ} → Meet X.file (lay X) stamp x b p m v t z → Passed P m v t z
+        meets : {t : Option ℕ} {z : List ℕ} → Meet X.file (lay X) stamp x b p m v t z → Passed P m v t z
         meets {t} {z} (variable i j) = visited l h d (subst (λ (a : ℕ). Visit (lay X) stamp x a m v t z) at j)
         meets (function i) = absurd (i e)
 
-        stop : {t : Seen} {z : List ℕ} → t.met ≡ true → Passed P m v t z → Comes P (p + 2) m v t z
-        stop i k = inl (k.0, i, ⊎_elim (λ a. a.1) (λ a. absurd (true_false i a.0)) k.1)
-
-        go_on : {t : Seen} {z : List ℕ} → t.met ≡ false → Scanned (p + width_of X.file p) t.count z r u → Passed P m v t z → Comes P (p + 2) m v r u
-        go_on {t} {z} i j k = ⊎_elim (λ a. absurd (true_false a.0 i)) (λ a. inr (t.count, z, k.0, a.1, a.2, rw width at j)) k.1
-
-        go : First p m v r u → Comes P (p + 2) m v r u
-        go k = ⊎_elim (λ a. rw (a.1, a.2) (stop a.0 (meets k.meets))) (λ a. go_on a.0 a.1 (meets k.meets)) k.rest
+        go : {u : List ℕ} {r : Option ℕ} → First p m v r u → Comes P (p + 2) m v r u
+        go (last j) = let a = meets j in inl (refl, a.0, a.1, a.2)
+        go (more {i = i} {z = z} j k) = let a = meets j in inr (i, z, a.0, a.1, a.2, rw width at k)
 
     -- the record of an applied function changes nothing
-    pass_function : {p m : ℕ} {v u : List ℕ} {r : Seen} → p < end → byte X.file p ≡ an_application → Scanned p m v r u → Scanned (p + 3) m v r u
+    pass_function : {p m : ℕ} {v u : List ℕ} {r : Option ℕ} → p < end → byte X.file p ≡ an_application → Scanned p m v r u → Scanned (p + 3) m v r u
     unfolding width_of
     pass_function {p} {m} {v} {u} {r} c e g = go (scan_step c g)
       where
         width : width_of X.file p ≡ 3
         width = if_false _ 2 3 (ne_eqb (byte X.file p) a_variable (λ i. omega arith))
 
-        meets : {t : Seen} {z : List ℕ} → Meet X.file (lay X) stamp x b p m v t z → (t ≡ record { met = false; count = m }) × (z ≡ v)
+        meets : {t : Option ℕ} {z : List ℕ} → Meet X.file (lay X) stamp x b p m v t z → (t ≡ Some m) × (z ≡ v)
         meets (variable i j) = absurd (omega arith)
         meets (function i) = (refl, refl)
 
-        go : First p m v r u → Scanned (p + 3) m v r u
-        go k =
-            let a = meets k.meets in
-            ⊎_elim (λ i. absurd (true_false i.0 (ap (λ (t : Seen). t.met) a.0))) (λ i. rw (a.0, a.1, width) at i.1) k.rest
+        go : {u : List ℕ} {r : Option ℕ} → First p m v r u → Scanned (p + 3) m v r u
+        go (last j) = cc (meets j).0
+        go (more {i = i} j k) = let a = meets j in let o : i ≡ m = cc a.0 in rw (o, a.1, width) at k
 
     mutual
       unfolding inst insts from term_length terms_length
 
-      pass_term : (t : Term) {p m : ℕ} {v u : List ℕ} {r : Seen} → StandsTerm X.file p t → p + term_length t ≤ end → ((c : ℕ) → In c (inst (from b) t) → (c < n) × Leads c) → Listing m v → Scanned p m v r u
+      pass_term : (t : Term) {p m : ℕ} {v u : List ℕ} {r : Option ℕ} → StandsTerm X.file p t → p + term_length t ≤ end → ((c : ℕ) → In c (inst (from b) t) → (c < n) × Leads c) → Listing m v → Scanned p m v r u
           → Comes (λ z. (c : ℕ) → In c (inst (from b) t) → Clear s x (Marked z) c) (p + term_length t) m v r u
       pass_term (var y) e h d l g =
           let a = d (b + y) refl in
@@ -430,7 +422,7 @@ module _ (X : Setting) (w : List ℕ) (k n : ℕ) (s : Store) (x stamp : ℕ) (q
           let o : p + 3 + terms_length ts ≡ p + (3 + terms_length ts) = omega arith in
           rw o at (pass_terms ts e.2 (omega arith) d l (pass_function (omega arith) e.0 g))
 
-      pass_terms : (ts : Terms) {p m : ℕ} {v u : List ℕ} {r : Seen} → StandsTerms X.file p ts → p + terms_length ts ≤ end → ((c : ℕ) → Ins c (insts (from b) ts) → (c < n) × Leads c) → Listing m v → Scanned p m v r u
+      pass_terms : (ts : Terms) {p m : ℕ} {v u : List ℕ} {r : Option ℕ} → StandsTerms X.file p ts → p + terms_length ts ≤ end → ((c : ℕ) → Ins c (insts (from b) ts) → (c < n) × Leads c) → Listing m v → Scanned p m v r u
           → Comes (λ z. (c : ℕ) → Ins c (insts (from b) ts) → Clear s x (Marked z) c) (p + terms_length ts) m v r u
       pass_terms []ₜ {p} {m} {v} {u} {r} e h d l g = inr (m, v, l, grows_none m v, (λ c i. absurd i), subst (λ (i : ℕ). Scanned i m v r u) (omega arith) g)
       pass_terms (t ∷ₜ ts) {p} {u = u} {r = r} e h d l g =
@@ -453,14 +445,14 @@ module _ (X : Setting) (w : List ℕ) (k n : ℕ) (s : Store) (x stamp : ℕ) (q
       ap (word v) d ∙ l.kept.same (64 + h.place.0) (inl (omega arith)) ∙ after_word w h.place.0 i.raw (terms_after X w q.base.tabled i.stands).0
 
   -- what is held is passed
-  scan_held : {m : ℕ} {v u : List ℕ} {r : Seen} (h : Held) (t : Term) → IsHeld X.rules h t → Good X.rules.functions n t → ((c : ℕ) → In c t → Leads c) → Listing m v → ScanHeld X.file (lay X) stamp x h m v r u
+  scan_held : {m : ℕ} {v u : List ℕ} {r : Option ℕ} (h : Held) (t : Term) → IsHeld X.rules h t → Good X.rules.functions n t → ((c : ℕ) → In c t → Leads c) → Listing m v → ScanHeld X.file (lay X) stamp x h m v r u
       → Passed (λ z. (c : ℕ) → In c t → Clear s x (Marked z) c) m v r u
   scan_held {m} {v} {u} {r} h t i g d l e =
       let end : ℕ = get_or v (ahead 64 h.place.0) 0 in
       let ends : end ≡ h.place.0 + term_length i.raw = held_ends h t i l in
       rw i.is (⊎_elim
-      (λ k. (k.0, inl (k.1, k.2)))
-      (λ k. let o = scan_over h.base.0 end (omega arith) k.5 in rw (o.0, o.1) (k.2, inr (refl, k.3, k.4)))
+      (λ k. rw k.0 (k.1, k.2, k.3))
+      (λ k. let o = scan_over h.base.0 end (omega arith) k.5 in rw (o.0, o.1) (k.2, k.3, k.4))
       (pass_term h.base.0 end i.raw (terms_stand X i.stands).0 (omega arith) (λ c j. (well_in _ _ c (inst (from h.base.0) i.raw) (rw i.is at g) j, d c (rw i.is j))) l e))
 
   -- ---- the listed cells are looked into
@@ -471,8 +463,9 @@ module _ (X : Setting) (w : List ℕ) (k n : ℕ) (s : Store) (x stamp : ℕ) (q
     parts : (j : ℕ) → j < i → (u : Term) → Binds (Listed v j) u s → (c : ℕ) → In c u → Clear s x (Marked v) c
 
   -- x was found inside, or everything up to i is clear
-  abbrev Looked : ℕ → Seen → List ℕ → Type 0
-  Looked i r v = Listing r.count v × (((r.met ≡ true) × In x (inst (value s) t₀)) ⊎ ((r.met ≡ false) × Done i r.count v))
+  abbrev Looked : ℕ → Option ℕ → List ℕ → Type 0
+  Looked i None v = (m : ℕ) × Listing m v × In x (inst (value s) t₀)
+  Looked i (Some m) v = Listing m v × Done i m v
 
   -- when all cells listed were looked into, x is not inside
   done_outside : {i m : ℕ} {v : List ℕ} → Listing m v → Done i m v → m ≤ i → ¬ In x (inst (value s) t₀)
@@ -490,7 +483,7 @@ module _ (X : Setting) (w : List ℕ) (k n : ℕ) (s : Store) (x stamp : ℕ) (q
     abbrev y : ℕ
     y = Listed v i
 
-    look_bound : {u : List ℕ} {r : Seen} → LookInto X.file (lay X) stamp x i m v r u → Passed (λ z. (c : ℕ) → In c a → Clear s x (Marked z) c) m v r u
+    look_bound : {u : List ℕ} {r : Option ℕ} → LookInto X.file (lay X) stamp x i m v r u → Passed (λ z. (c : ℕ) → In c a → Clear s x (Marked z) c) m v r u
     unfolding cell_at
     look_bound {u} {r} g = go g
       where
@@ -503,17 +496,18 @@ module _ (X : Setting) (w : List ℕ) (k n : ℕ) (s : Store) (x stamp : ℕ) (q
         leads : (c : ℕ) → In c a → Leads c
         leads c j e = (l.entry i h).leads (rw (value_bound s y a q.stored.sound b) (in_inst (value s) x c a j e))
 
-        go : {u : List ℕ} {r : Seen} → LookInto X.file (lay X) stamp x i m v r u → Passed (λ z. (c : ℕ) → In c a → Clear s x (Marked z) c) m v r u
+        go : {u : List ℕ} {r : Option ℕ} → LookInto X.file (lay X) stamp x i m v r u → Passed (λ z. (c : ℕ) → In c a → Clear s x (Marked z) c) m v r u
         go (was_free e) = let o : ◌≡◌ {A = ℕ} 0 1 = cc same_cell in absurd (omega arith)
         go {u} {r} (was_bound {t} e f) =
             let o : t ≡ held.0 = cc same_cell in
             scan_held held.0 a held.2 (bound_good _ n s y a q.stored.good b) leads l (subst (λ (z : Held). ScanHeld X.file (lay X) stamp x z m v r u) o f)
 
-    look_done : {u : List ℕ} {r : Seen} → Passed (λ z. (c : ℕ) → In c a → Clear s x (Marked z) c) m v r u → Looked (i + 1) r u
-    look_done {u} {r} k = (k.0, ⊎_elim inl (λ f. inr (f.0, done f.1 f.2)) k.1)
+    look_done : (u : List ℕ) (r : Option ℕ) → Passed (λ z. (c : ℕ) → In c a → Clear s x (Marked z) c) m v r u → Looked (i + 1) r u
+    look_done u None k = k
+    look_done u (Some j) k = (k.0, done k.1 k.2)
       where
-        done : Grows m v r.count u → ((c : ℕ) → In c a → Clear s x (Marked u) c) → Done (i + 1) r.count u
-        done g f = let e : m ≤ r.count = g.more in record {
+        done : Grows m v j u → ((c : ℕ) → In c a → Clear s x (Marked u) c) → Done (i + 1) j u
+        done g f = let e : m ≤ j = g.more in record {
           reached = omega arith;
           whole = λ c j. clear_grows c g (d.whole c j);
           parts = λ j o t n. let p : j < m = omega arith in let bound : Binds (Listed v j) t s = rw (g.listed j p) at n in
@@ -523,9 +517,9 @@ module _ (X : Setting) (w : List ℕ) (k n : ℕ) (s : Store) (x stamp : ℕ) (q
               (same_or_other j i);
         }
 
-  look_into : {i m : ℕ} {v u : List ℕ} {r : Seen} → Listing m v → Done i m v → i < m → LookInto X.file (lay X) stamp x i m v r u → Looked (i + 1) r u
-  look_into {i} {m} {v} l d h g =
-      ⊎_elim (λ f. absurd ((l.entry i h).bound f)) (λ b. look_done i m v l d h b.0 b.1 (look_bound i m v l d h b.0 b.1 g)) (free_or_bound s (Listed v i))
+  look_into : {i m : ℕ} {v u : List ℕ} {r : Option ℕ} → Listing m v → Done i m v → i < m → LookInto X.file (lay X) stamp x i m v r u → Looked (i + 1) r u
+  look_into {i} {m} {v} {u} {r} l d h g =
+      ⊎_elim (λ f. absurd ((l.entry i h).bound f)) (λ b. look_done i m v l d h b.0 b.1 u r (look_bound i m v l d h b.0 b.1 g)) (free_or_bound s (Listed v i))
 
   -- what it comes to
   abbrev Answered : Bool → List ℕ → Type 0
@@ -537,11 +531,11 @@ module _ (X : Setting) (w : List ℕ) (k n : ℕ) (s : Store) (x stamp : ℕ) (q
   outside : {i m : ℕ} {v : List ℕ} → Listing m v → Done i m v → m ≤ i → Answered false v
   outside l d h = (sym (occurs_outside x _ (done_outside l d h)), l.kept, l.marks)
 
-  look_all : {i : ℕ} {t : Seen} {v u : List ℕ} {r : Bool} → Looked i t v → Looks X.file (lay X) stamp k x i t v r u → Answered r u
-  look_all {i} {t} {v} g (all h) = ⊎_elim (λ a. rw a.0 (inside g.0 a.1)) (λ a. let b : t.count ≤ k = all_listed g.0 in rw a.0 (outside g.0 a.1 (omega arith))) g.1
-  look_all g (found e) = ⊎_elim (λ a. inside g.0 a.1) (λ a. absurd (true_false e a.0)) g.1
-  look_all g (none e h) = ⊎_elim (λ a. absurd (true_false a.0 e)) (λ a. outside g.0 a.1 h) g.1
-  look_all g (next h e j o z) = ⊎_elim (λ a. absurd (true_false a.0 e)) (λ a. look_all (look_into g.0 a.1 j o) z) g.1
+  look_all : {i : ℕ} {t : Option ℕ} {v u : List ℕ} {r : Bool} → Looked i t v → Looks X.file (lay X) stamp k x i t v r u → Answered r u
+  look_all g (all {n = m} h) = let b : m ≤ k = all_listed g.0 in outside g.0 g.1 (omega arith)
+  look_all g found = inside g.1 g.2
+  look_all g (none h) = outside g.0 g.1 h
+  look_all g (next h j o z) = look_all (look_into g.0 g.1 j o) z
 
   start : Listing 0 w
   start = record {
@@ -553,9 +547,11 @@ module _ (X : Setting) (w : List ℕ) (k n : ℕ) (s : Store) (x stamp : ℕ) (q
   }
 
   walk_answers : {u : List ℕ} {r : Bool} (h : Held) → IsHeld X.rules h t₀ → Good X.rules.functions n t₀ → Inside X.file (lay X) stamp k x h w r u → Answered r u
-  walk_answers h i g (looks a b) =
-      let c = scan_held h t₀ i g (λ c j e. in_inst (value s) x c t₀ j e) start a in
-      look_all (c.0, ⊎_elim inl (λ f. inr (f.0, record { reached = omega arith; whole = f.2; parts = λ j o. absurd (omega arith) })) c.1) b
+  walk_answers h i g (looks {s = o} {v = z} a b) = look_all (first z o (scan_held h t₀ i g (λ c j e. in_inst (value s) x c t₀ j e) start a)) b
+    where
+      first : (v : List ℕ) (o : Option ℕ) → Passed (λ z. (c : ℕ) → In c t₀ → Clear s x (Marked z) c) 0 w o v → Looked 0 o v
+      first v None c = c
+      first v (Some m) c = (c.0, record { reached = omega arith; whole = c.2; parts = λ j l. absurd (omega arith) })
 
 -- whether the variable is found inside a value is whether it occurs there, and only marks and list change
 pub insides : {X : Setting} {w v : List ℕ} {k n : ℕ} {s : Store} {x stamp : ℕ} {r : Bool} → Looking X w k n s x stamp

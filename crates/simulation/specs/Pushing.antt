@@ -14,9 +14,10 @@ use Rattle.meaning.specs.Call.{needed}
 use Rattle.layout.specs.Lengths.{term_length, terms_length}
 use Rattle.layout.specs.Regions.{word, Keeps, after_at}
 use Rattle.layout.specs.Tables.{AfterTerm}
-use Rattle.words.specs.Words.{plus}
+use Rattle.words.specs.Words.{plus, put_four}
 use Rattle.cells.specs.declared.Held.{Held}
-use Rattle.matching.specs.Matching.{put_four, word_of_place, held_at, place_after, pushed}
+use Rattle.cells.specs.Cells.{word_of_place, held_at, place_after}
+use Rattle.matching.specs.Matching.{pushed}
 use Rattle.simulation.specs.Places.{TermsAt, rest, IsHeld}
 use Rattle.simulation.specs.PlaceLaws.{terms_end, terms_after}
 use Rattle.simulation.specs.Rep.{Setting, lay, layout_of, Base, PairsAre}

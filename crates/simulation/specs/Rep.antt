@@ -14,11 +14,10 @@ use Rattle.meaning.specs.Call.{in_range, needed}
 use Rattle.demands.specs.Proofs.{Each}
 use Rattle.layout.specs.Regions.{word}
 use Rattle.layout.specs.Tables.{Tabled, Chain}
-use Rattle.cells.specs.Cells.{cell_at}
+use Rattle.cells.specs.Cells.{cell_at, held_at}
 use Rattle.cells.specs.declared.Held.{Held}
 use Rattle.cells.specs.declared.Cell.TheVariants.{Bound}
 use Rattle.cells.specs.declared.Layout.{Layout}
-use Rattle.matching.specs.Matching.{held_at}
 use Rattle.search.specs.Search.{step_word, clause_next_word}
 use Rattle.simulation.specs.Places.{BodyAt, QueryAt, TermsAt, IsHeld}
 

@@ -3,7 +3,7 @@
 use Prim.Native.Nat.{ℕ, zero, suc, ◌+◌, ◌-◌, ◌*◌, ◌≤◌, ◌<◌}
 use Rattle.std.proofs.Math.Path.{◌≡◌, refl, ap, sym, subst}
 use Rattle.std.proofs.Common.{◌∙◌, inl, inr, mod-lt, length-append, eq-eqb, ne_eqb, lt-ltb, le-ltb}
-use Rattle.std.specs.Prelude.{◌≢◌, false, length}
+use Rattle.std.specs.Prelude.{◌≢◌, false, length, Err}
 use Rattle.std.proofs.Math.Bool.{not}
 use mathlib.Core.List.{List, [], ◌∷◌, ◌++◌}
 use Rattle.std.proofs.Math.Option.{some-injective}
@@ -24,12 +24,11 @@ use Rattle.demands.specs.WellLaws.{Good, GoodStore, GoodPairs, follow_good, foll
 use Rattle.demands.specs.Ways.{GoodAt}
 use Rattle.layout.specs.Regions.{word, Keeps}
 use Rattle.words.specs.Words.{plus, ahead}
-use Rattle.cells.specs.Cells.{cell_at, cell_of, word_of, followed}
+use Rattle.cells.specs.Cells.{cell_at, cell_of, word_of, followed, held_at}
 use Rattle.cells.specs.declared.Held.{Held}
 use Rattle.cells.specs.declared.Found.{Found}
-use Rattle.matching.specs.Matching.{held_at, past_kind, pushed, bound_to, one_bound, BindChecked, is_inside, binds, BindHead, unmentioned, mentioned, Functions, unequal, crowded, equal, front_of, Compares, one_variable, head_variable, head_free, goal_free, both_applied, TakesPair, no_pair, front}
-use Rattle.matching.specs.declared.Pairing.{Pairing}
-use Rattle.matching.specs.declared.Pairing.TheVariants.{Same, Differ, Over}
+use Rattle.matching.specs.Matching.{Pairing, going, past_kind, pushed, bound_to, one_bound, BindChecked, is_inside, binds, BindHead, unmentioned, mentioned, Functions, unequal, crowded, equal, front_of, Compares, one_variable, head_variable, head_free, goal_free, both_applied, TakesPair, no_pair, front}
+use Rattle.matching.specs.declared.Clash.TheVariants.{Differ, Over}
 use Rattle.search.specs.Search.{step_word, Backs, MatchesOn, MovesPair, same, differ, over_work}
 use Rattle.search.specs.declared.Regs.{Regs}
 use Rattle.search.specs.declared.Due.{Due}
@@ -196,9 +195,9 @@ module _ (X : Setting) where
     -- what the pair comes to
     pub data Comes (v : List ℕ) : Pairing → State → Type 0 where
       goes : (trail work fresh : ℕ) (qs : List Pair) (o : Derivation)
-          → AtIs X v (record { cells = m.cells; trail = trail; steps = m.steps; choice = m.choice; work = work; fresh = fresh; next = m.next; units = m.units }) qs o cs → Unmentioned X.rules.functions fresh o.store qs → Fair X o cs → Comes v (Same trail work fresh) (matching X.rules X.limits wanted room qs o cs d)
-      fails : Inner w v → StoreRep X v s n.cells m.trail m.units → Comes v Differ (fail cs d)
-      fills : Comes v Over (ended 25 d)
+          → AtIs X v (record { cells = m.cells; trail = trail; steps = m.steps; choice = m.choice; work = work; fresh = fresh; next = m.next; units = m.units }) qs o cs → Unmentioned X.rules.functions fresh o.store qs → Fair X o cs → Comes v (going trail work fresh) (matching X.rules X.limits wanted room qs o cs d)
+      fails : Inner w v → StoreRep X v s n.cells m.trail m.units → Comes v (Err Differ) (fail cs d)
+      fills : Comes v (Err Over) (ended 25 d)
 
     unchanged : Inner w w
     unchanged = record { as_long = refl; tables = λ i a b. refl; above = λ i a. refl }
@@ -208,7 +207,7 @@ module _ (X : Setting) where
     taken x t g = record { bindings = (g, fresh.bindings); goals = fresh.goals.1 }
 
     -- matching goes on with the other pairs, nothing being changed
-    goes_same : Comes w (Same m.trail j m.fresh) (matching X.rules X.limits wanted room ps n cs d)
+    goes_same : Comes w (going m.trail j m.fresh) (matching X.rules X.limits wanted room ps n cs d)
     goes_same =
         goes m.trail j m.fresh ps n (record {
           run = inner_run w w m n cs s m.trail j m.fresh unchanged at.run now at.run.holds;
@@ -232,7 +231,7 @@ module _ (X : Setting) where
         let b : Inner w u = inner_then w v u i (bound_inner v s n.cells m.trail m.units x h t rep sound_then good_then held) in
         let r : StoreRep X u (bind x t s) n.cells (suc m.trail) m.units = bound_rep v s n.cells m.trail m.units x h t rep sound_then good_then held in
         let z : plus m.trail 1 ≡ suc m.trail = (let k = k_less v s n.cells m.trail m.units x h t rep sound_then good_then held in let c = cells_few in plus_small m.trail 1 (omega arith) ∙ omega arith) in
-        subst (λ (k : ℕ). Comes u (Same k j fresh) (matching X.rules X.limits wanted room ps (record { goals = n.goals; store = bind x t s; cells = n.cells; steps = n.steps }) cs d)) (sym z)
+        subst (λ (k : ℕ). Comes u (going k j fresh) (matching X.rules X.limits wanted room ps (record { goals = n.goals; store = bind x t s; cells = n.cells; steps = n.steps }) cs d)) (sym z)
         (goes (suc m.trail) j fresh ps (record { goals = n.goals; store = bind x t s; cells = n.cells; steps = n.steps }) (record {
           run = inner_run w u m n cs (bind x t s) (suc m.trail) j fresh b at.run (since now) r;
           pairs = inner_pairs w u j ps at.run.holds.base (let e = at.pairs.1 in let f = at.few in omega arith) b at.pairs.4;
@@ -246,7 +245,7 @@ module _ (X : Setting) where
     unfolding binding with_binding
     binds_or x h t fresh un (is_inside {v = v} i) l f held g =
         let (e, k, mk) = insides (record { stored = stored; base = at.run.holds.base; free = f; room = at.run.holds.few; marks = marks }) h t held g i in
-        subst (Comes v Differ) (sym (if_true _ _ _ (sym e))) (fails (marks_inner w v k) (kept v k mk))
+        subst (Comes v (Err Differ)) (sym (if_true _ _ _ (sym e))) (fails (marks_inner w v k) (kept v k mk))
     binds_or x h t fresh un (binds {v = v} i) l f held g =
         let (e, k, mk) = insides (record { stored = stored; base = at.run.holds.base; free = f; room = at.run.holds.few; marks = marks }) h t held g i in
         subst (Comes _ (one_bound m.trail j fresh)) (sym (if_false _ _ _ (sym e)))
@@ -322,7 +321,7 @@ module _ (X : Setting) where
         steps_low v low zero q h = refl
         steps_low v low (suc i) q h = let r = mod-lt q {m = 8} (omega arith) in let f = at.run.few_steps in low _ (omega arith)
 
-    unchanged_fails : Comes w Differ (fail cs d)
+    unchanged_fails : Comes w (Err Differ) (fail cs d)
     unchanged_fails = fails unchanged at.run.holds
 
     pairs_length : (ts us : Terms) → count ts ≡ count us → length (pairs ts us) ≡ count ts
@@ -347,13 +346,13 @@ module _ (X : Setting) where
 
       pushes : (xs ys : Terms) → byte X.file (2 * f + 1) ≡ count xs → plus j (byte X.file (2 * f + 1)) ≡ j + count xs → ts ≡ insts (from a.base.0) xs → us ≡ insts (from b.base.0) ys
           → Pushed X w j (count xs) ps (pairs (insts (from a.base.0) xs) (insts (from b.base.0) ys)) (pushed (count xs) j (lay X) (past_kind a 3) (past_kind b 3) w) → j + count xs ≤ X.limits.work
-          → Comes (pushed (byte X.file (2 * f + 1)) j (lay X) (past_kind a 3) (past_kind b 3) w) (Same m.trail (plus j (byte X.file (2 * f + 1))) m.fresh) (matching X.rules X.limits wanted room (pairs ts us ++ ps) n cs d)
+          → Comes (pushed (byte X.file (2 * f + 1)) j (lay X) (past_kind a 3) (past_kind b 3) w) (going m.trail (plus j (byte X.file (2 * f + 1))) m.fresh) (matching X.rules X.limits wanted room (pairs ts us ++ ps) n cs d)
       pushes xs ys z t e g p₁ l =
           let (run, next) = work_run (pushed (count xs) j (lay X) (past_kind a 3) (past_kind b 3) w) _ _ (j + count xs) (omega arith) p₁.keeps in
           rw (t, z, e, g) (goes m.trail (j + count xs) m.fresh (pairs (insts (from a.base.0) xs) (insts (from b.base.0) ys) ++ ps) n (record { run = run; pairs = p₁.pairs; few = l; next = next }) (record { bindings = fresh.bindings; goals = sides_append X.rules.functions m.fresh (pairs (insts (from a.base.0) xs) (insts (from b.base.0) ys)) ps (arguments_good X.rules.functions m.fresh (insts (from a.base.0) xs) (insts (from b.base.0) ys) (rw e at gf.1)) fresh.goals.1 }) fair)
 
       pushed_come : plus j (byte X.file (2 * f + 1)) ≤ X.limits.work
-          → Comes (pushed (byte X.file (2 * f + 1)) j (lay X) (past_kind a 3) (past_kind b 3) w) (Same m.trail (plus j (byte X.file (2 * f + 1))) m.fresh) (matching X.rules X.limits wanted room (pairs ts us ++ ps) n cs d)
+          → Comes (pushed (byte X.file (2 * f + 1)) j (lay X) (past_kind a 3) (past_kind b 3) w) (going m.trail (plus j (byte X.file (2 * f + 1))) m.fresh) (matching X.rules X.limits wanted room (pairs ts us ++ ps) n cs d)
       unfolding past_kind
       pushed_come l =
           let (xs, bs, st, e) = held_app a f ts ia in
@@ -375,13 +374,13 @@ module _ (X : Setting) where
     functions_come : (f e : ℕ) (ts us : Terms) (a b : Held) → IsHeld X.rules a (app f ts) → IsHeld X.rules b (app e us) → Good X.rules.functions n.cells (app f ts) → Good X.rules.functions n.cells (app e us) → Good X.rules.functions m.fresh (app f ts) → {c : Pairing} {v : List ℕ}
         → Functions X.file (lay X) X.limits.work m.trail j m.fresh f e a b w c v → Comes v c (compared X.rules X.limits wanted room (app f ts) (app e us) ps n cs d)
     unfolding compared
-    functions_come f e ts us a b ia ib ga gb gf (unequal q) = subst (Comes w Differ) (sym (if_true _ _ _ (ap not (ne_eqb f e q)))) unchanged_fails
+    functions_come f e ts us a b ia ib ga gb gf (unequal q) = subst (Comes w (Err Differ)) (sym (if_true _ _ _ (ap not (ne_eqb f e q)))) unchanged_fails
     functions_come f e ts us a b ia ib ga gb gf (crowded q l) =
         let z = longer_is f ts us a b ia (rw (← q) at ib) ga (rw (← q) at gb) gf in
-        subst (Comes w Over) (sym (if_false _ _ _ (ap not (eq-eqb f e q)) ∙ if_true _ _ _ (lt-ltb X.limits.work (length (pairs ts us ++ ps)) (omega arith)))) fills
+        subst (Comes w (Err Over)) (sym (if_false _ _ _ (ap not (eq-eqb f e q)) ∙ if_true _ _ _ (lt-ltb X.limits.work (length (pairs ts us ++ ps)) (omega arith)))) fills
     functions_come f e ts us a b ia ib ga gb gf (equal q l) =
         let z = longer_is f ts us a b ia (rw (← q) at ib) ga (rw (← q) at gb) gf in
-        subst (Comes (pushed (byte X.file (2 * f + 1)) j (lay X) (past_kind a 3) (past_kind b 3) w) (Same m.trail (plus j (byte X.file (2 * f + 1))) m.fresh)) (sym (if_false _ _ _ (ap not (eq-eqb f e q)) ∙ if_false _ _ _ (le-ltb X.limits.work (length (pairs ts us ++ ps)) (omega arith))))
+        subst (Comes (pushed (byte X.file (2 * f + 1)) j (lay X) (past_kind a 3) (past_kind b 3) w) (going m.trail (plus j (byte X.file (2 * f + 1))) m.fresh)) (sym (if_false _ _ _ (ap not (eq-eqb f e q)) ∙ if_false _ _ _ (le-ltb X.limits.work (length (pairs ts us ++ ps)) (omega arith))))
         (pushed_come f ts us a b ia (rw (← q) at ib) ga (rw (← q) at gb) gf l)
 
     -- ---- the pair in all its cases
@@ -400,7 +399,7 @@ module _ (X : Setting) where
     compares_come g h t u a b z (one_variable {x = x} {y = y} e f q) =
         let (k, i) = subst (λ (z : Found). FoundIs X.rules z t) e a.found in
         let (l, o) = subst (λ (z : Found). FoundIs X.rules z u) f b.found in
-        rw (k, l) (subst (Comes w (Same m.trail j m.fresh)) (sym (if_true _ _ _ (eq-eqb x.0 y.0 q))) goes_same)
+        rw (k, l) (subst (Comes w (going m.trail j m.fresh)) (sym (if_true _ _ _ (eq-eqb x.0 y.0 q))) goes_same)
     compares_come g h t u a b z (head_variable {x = x} {y = y} {s = p₁} e f q) =
         let (k, i) = subst (λ (z : Found). FoundIs X.rules z t) e a.found in
         let (l, o) = subst (λ (z : Found). FoundIs X.rules z u) f b.found in
@@ -433,16 +432,16 @@ module _ (X : Setting) where
         (rw rest_is at c)
 
     -- ---- the move
-    on_same : {trail work fresh : ℕ} {v u : List ℕ} {st : State} {r : Due} → Comes v (Same trail work fresh) st
+    on_same : {trail work fresh : ℕ} {v u : List ℕ} {st : State} {r : Due} → Comes v (going trail work fresh) st
         → MatchesOn X.file (lay X) (record { cells = m.cells; trail = trail; steps = m.steps; choice = m.choice; work = work; fresh = fresh; next = m.next; units = m.units }) v r u → DueIs X u wanted room d r st
     on_same (goes trail work new qs o a k f) mo = matches_on X wanted room _ _ qs o cs d mo a k f units
 
-    on_differ : {v u : List ℕ} {st : State} {r : Due} → Comes v Differ st → Backs (lay X) m m.trail m.choice v r u → DueIs X u wanted room d r st
+    on_differ : {v u : List ℕ} {st : State} {r : Due} → Comes v (Err Differ) st → Backs (lay X) m m.trail m.choice v r u → DueIs X u wanted room d r st
     on_differ {v} (fails i rep) b =
         backs_fail X (tables_room X) wanted room m b s n.cells cs d rep good.sound fair.within
         (choices_same X w v i.tables (tables_room X) m.steps (inner_steps w v m.steps i) at.run.choice at.run.choices) fair.choices (let a = at.run.choice in let f = at.run.few_steps in omega arith) units
 
-    on_over : {v : List ℕ} {st : State} → Comes v Over st → DueIs X v wanted room d (OverDue Work m) st
+    on_over : {v : List ℕ} {st : State} → Comes v (Err Over) st → DueIs X v wanted room d (OverDue Work m) st
     unfolding end_number
     on_over fills = is_over Work units
 

@@ -1,6 +1,6 @@
 -- Trying a head comes to what the definition says.
 -- Assumes nothing.
-use Rattle.std.specs.Prelude.{ℕ, ◌+◌, ◌*◌, ◌≤◌, ◌<◌, ltb}
+use Rattle.std.specs.Prelude.{ℕ, ◌+◌, ◌*◌, ◌≤◌, ◌<◌, ltb, Ok, Err}
 use Rattle.std.proofs.Math.Path.{◌≡◌, refl, ap}
 use Rattle.std.proofs.Common.{sym, ◌∙◌, subst, arith, ltb-false}
 use mathlib.Core.List.{List, ◌∷◌}
@@ -21,12 +21,12 @@ use Rattle.demands.specs.Searches.{GoodChoice}
 use Rattle.layout.specs.Lengths.{clause_place, query_place}
 use Rattle.meaning.specs.declared.Place.{Place}
 use Rattle.cells.specs.Cells.{freed}
-use Rattle.search.specs.Search.{step_put, clause_place_word, room_of, arity_at, paired, entered_regs, entered_words, Enters, enters, MatchesOn, TriesHead, over_cells, over_steps, tries}
+use Rattle.search.specs.Search.{step_put, clause_place_word, room_of, arity_at, paired, entered_regs, entered_words, Enters, enters, MatchesOn, TriesHead, no_room, tries}
 use Rattle.search.specs.declared.Given.{Given}
 use Rattle.search.specs.declared.Regs.{Regs}
 use Rattle.search.specs.declared.Trial.{Trial}
 use Rattle.search.specs.declared.Due.{Due}
-use Rattle.search.specs.declared.Room.TheVariants.{Cells as RoomCells, Steps as RoomSteps, Fits}
+use Rattle.search.specs.declared.Fits.{Fits}
 use Rattle.simulation.specs.PlaceLaws.{rules_stand}
 use Rattle.simulation.specs.Rep.{Setting, lay, layout_of}
 use Rattle.simulation.specs.Ranges.{few_predicates, in_range_is}
@@ -75,7 +75,7 @@ module _ (X : Setting) (wf : WellFormed X.rules) (wanted room : ℕ) where
     place_is = ap (λ (x : ℕ). record { 0 = get_or w (64 + length X.file + length X.rules.predicates + 2 * x) 0 }) try.clause ∙ ap (λ (x : ℕ). record { 0 = x }) try.place
 
     room_is : room_of X.file w (given_of X) t.clause m
-        ≡ (when ltb X.limits.cells (n.cells + k.clause.variables) then RoomCells else when ltb X.limits.steps (length n.steps + 1) then RoomSteps else Fits (record { 0 = clause_place X.rules k.number }) k.clause.variables)
+        ≡ (when ltb X.limits.cells (n.cells + k.clause.variables) then Err Cells else when ltb X.limits.steps (length n.steps + 1) then Err Steps else Ok (record { place = record { 0 = clause_place X.rules k.number }; variables = k.clause.variables }))
     unfolding room_of given_of
     room_is = rw (place_is, ((rules_stand X).clauses k.number k.clause known).variables, try.run.cells, try.run.steps.0) refl
 
@@ -114,21 +114,18 @@ module _ (X : Setting) (wf : WellFormed X.rules) (wanted room : ℕ) where
         (λ c'. over_two h (room_is ∙ if_false _ _ _ b ∙ if_true _ _ _ c'))
         (λ c'. fits h (room_is ∙ if_false _ _ _ b ∙ if_false _ _ _ c') (ltb-false _ _ b) (ltb-false _ _ c')))
       where
-        over_one : {r : Due} {v : List ℕ} → TriesHead X.file (given_of X) t m w r v → room_of X.file w (given_of X) t.clause m ≡ RoomCells → DueIs X v wanted room d r (ended 23 d)
-        over_one (over_cells a) e = is_over Cells un
-        over_one (over_steps a) e = let z : ◌≡◌ {A = ℕ} 0 1 = cc in absurd (omega arith)
-        over_one (tries a x y) e = let z : ◌≡◌ {A = ℕ} 0 1 = cc in absurd (omega arith)
+        over_one : {r : Due} {v : List ℕ} → TriesHead X.file (given_of X) t m w r v → room_of X.file w (given_of X) t.clause m ≡ Err Cells → DueIs X v wanted room d r (ended 23 d)
+        over_one (no_room {e = z} a) e = let y : z ≡ Cells = cc in rw y (is_over Cells un)
+        over_one (tries a x y) e = cc
 
-        over_two : {r : Due} {v : List ℕ} → TriesHead X.file (given_of X) t m w r v → room_of X.file w (given_of X) t.clause m ≡ RoomSteps → DueIs X v wanted room d r (ended 24 d)
-        over_two (over_cells a) e = let z : ◌≡◌ {A = ℕ} 0 1 = cc in absurd (omega arith)
-        over_two (over_steps a) e = is_over Steps un
-        over_two (tries a x y) e = let z : ◌≡◌ {A = ℕ} 0 1 = cc in absurd (omega arith)
+        over_two : {r : Due} {v : List ℕ} → TriesHead X.file (given_of X) t m w r v → room_of X.file w (given_of X) t.clause m ≡ Err Steps → DueIs X v wanted room d r (ended 24 d)
+        over_two (no_room {e = z} a) e = let y : z ≡ Steps = cc in rw y (is_over Steps un)
+        over_two (tries a x y) e = cc
 
-        fits : {r : Due} {v : List ℕ} → TriesHead X.file (given_of X) t m w r v → room_of X.file w (given_of X) t.clause m ≡ Fits here_place k.clause.variables → n.cells + k.clause.variables ≤ X.limits.cells → length n.steps + 1 ≤ X.limits.steps
+        fits : {r : Due} {v : List ℕ} → TriesHead X.file (given_of X) t m w r v → room_of X.file w (given_of X) t.clause m ≡ Ok (record { place = here_place; variables = k.clause.variables }) → n.cells + k.clause.variables ≤ X.limits.cells → length n.steps + 1 ≤ X.limits.steps
             → DueIs X v wanted room d r (matching X.rules X.limits wanted room (pairs g.arguments (over n.cells k.clause.head).arguments) (with_step k (length cs) n) (choice ks g n ∷ cs) d)
-        fits (over_cells a) e i j = let z : ◌≡◌ {A = ℕ} 0 1 = cc in absurd (omega arith)
-        fits (over_steps a) e i j = let z : ◌≡◌ {A = ℕ} 0 1 = cc in absurd (omega arith)
-        fits (tries {p = q} {variables = x} a f mo) e i j = let s = try.run.steps.0 in again q x f mo (cc) (cc) i (omega arith)
+        fits (no_room a) e i j = cc
+        fits (tries {fit = y} a f mo) e i j = let s = try.run.steps.0 in let z : y ≡ record { place = here_place; variables = k.clause.variables } = cc in again y.place y.variables f mo (ap (λ (b : Fits). b.place) z) (ap (λ (b : Fits). b.variables) z) i (omega arith)
           where
             again : (q : Place) (x : ℕ) {o : Regs} {y u : List ℕ} {s : Due} → Enters X.file (given_of X) t m q x w o y → MatchesOn X.file (given_of X).lay o y s u → q ≡ here_place → x ≡ k.clause.variables → n.cells + k.clause.variables ≤ X.limits.cells → m.steps < X.limits.steps
                 → DueIs X u wanted room d s (matching X.rules X.limits wanted room (pairs g.arguments (over n.cells k.clause.head).arguments) (with_step k (length cs) n) (choice ks g n ∷ cs) d)

@@ -1,7 +1,7 @@
 -- The nodes of the values of an answer, measured or written one after another, come to the records that the definition writes.
 -- Assumes nothing.
 use Prim.Native.Nat.{ℕ, zero, suc, ◌+◌, ◌-◌, ◌*◌, ◌^◌, ◌≤◌, ◌<◌}
-use Rattle.std.specs.Prelude.{◌≡◌, ◌⊎◌, Bool, set}
+use Rattle.std.specs.Prelude.{◌≡◌, ◌⊎◌, Bool, Result, Ok, Err, set}
 use Rattle.std.proofs.Math.Path.{refl, ap, sym, subst}
 use Rattle.std.proofs.Common.{ap₂, ◌∙◌, inl, inr, get_or-set_same}
 use Rattle.std.proofs.Math.Bool.{true, false}
@@ -17,6 +17,8 @@ use Rattle.meaning.specs.Kinds.{an_application, an_answer_variable}
 use Rattle.meaning.specs.Store.{Store, value, follow}
 use Rattle.meaning.specs.Answers.{has, appear, appears, index, Piece, piece, two, write, writes, write_each, bytes_of, stops, fitting}
 use Rattle.meaning.specs.Call.{needed}
+use Rattle.meaning.specs.Outcome.{end_number}
+use Rattle.meaning.specs.declared.End.TheVariants.{Work, Output}
 use Rattle.laws.specs.IfLaws.{if_true, if_false}
 use Rattle.demands.specs.GoodFiles.{index_less}
 use Rattle.demands.specs.TermLaws.{count_insts}
@@ -31,9 +33,10 @@ use Rattle.cells.specs.declared.Cell.TheVariants.{Free as Unset}
 use Rattle.cells.specs.declared.Held.{Held}
 use Rattle.cells.specs.declared.Found.{Found}
 use Rattle.cells.specs.declared.Found.TheVariants.{Unbound, Function}
+use Rattle.answers.specs.declared.Stopped.{Stopped}
 use Rattle.answers.specs.declared.Tally.{Tally}
 use Rattle.answers.specs.Values.{Number, known, fresh, appeared_of, due_at, arguments_put, arity_of, with_due, FreeNode, variable_full, variable, FunctionNode, function_full, crowded, function, Node, is_free, is_function}
-use Rattle.answers.specs.Values.{Nodes, node_stopped, none_due, next_due, value_of, cell_value, Value, whole_value, Values, no_more, value_stopped, next_value}
+use Rattle.answers.specs.Values.{NextNode, Nodes, none_due, node_stopped, next_due, value_of, cell_value, Value, first_stopped, whole_value, Values, no_more, value_stopped, next_value}
 use Rattle.simulation.specs.Places.{TermsAt, of_term, IsHeld}
 use Rattle.simulation.specs.Rep.{Setting, lay, layout_of, Base}
 use Rattle.simulation.specs.Frames.{keeps_none, keeps_wider, set_keeps}
@@ -53,36 +56,47 @@ halts_stop (inl e) z = omega arith
 halts_stop (inr e) z = omega arith
 
 module _ (writing : Bool) (W : ℕ) where
-  -- the records ps fit, and are in the output where it is written, and A holds; or the writing stops in them, and B holds
-  pub data Ends (i : ℕ) (ps : List Piece) (o : List ℕ) (r : Tally) (p : List ℕ) (A B : Type 0) : Type 0 where
-    went : r.size ≡ i + length (bytes_of ps) → r.size ≤ length o → p ≡ put writing i (bytes_of ps) o
-        → ((rest : List Piece) → fitting (length o) W i (ps ++ rest) ≡ fitting (length o) W r.size rest) → A → Ends i ps o r p A B
-    halts : (r.stop ≡ 25) ⊎ (r.stop ≡ 26) → ((rest : List Piece) → fitting (length o) W i (ps ++ rest) ≡ stops r.stop) → B → Ends i ps o r p A B
+  -- the records ps fit, and are in the output where it is written, and A holds of the tally; or the writing stops in them with an end, and B holds
+  pub data Ends (i : ℕ) (ps : List Piece) (o : List ℕ) (r : Result Tally Stopped) (p : List ℕ) (A : Tally → Type 0) (B : Type 0) : Type 0 where
+    went : {t : Tally} → r ≡ Ok t → t.size ≡ i + length (bytes_of ps) → t.size ≤ length o → p ≡ put writing i (bytes_of ps) o
+        → ((rest : List Piece) → fitting (length o) W i (ps ++ rest) ≡ fitting (length o) W t.size rest) → A t → Ends i ps o r p A B
+    halts : {e : Stopped} → r ≡ Err e → (e.end ≡ Work) ⊎ (e.end ≡ Output) → ((rest : List Piece) → fitting (length o) W i (ps ++ rest) ≡ stops (end_number e.end)) → B → Ends i ps o r p A B
 
-  ends_none : {t : Tally} {o : List ℕ} {A B : Type 0} → t.size ≤ length o → A → Ends t.size [] o t o A B
+  ends_none : {t : Tally} {o : List ℕ} {A : Tally → Type 0} {B : Type 0} → t.size ≤ length o → A t → Ends t.size [] o (Ok t) o A B
   unfolding bytes_of
-  ends_none {t} {o} l a = went (omega arith) l (sym (put_none writing t.size o)) (λ rest. refl) a
+  ends_none {t} {o} l a = went refl (omega arith) l (sym (put_none writing t.size o)) (λ rest. refl) a
 
-  -- records, and then others
-  ends_then : {i : ℕ} {s r : Tally} {ps qs : List Piece} {o p q : List ℕ} {A B C D : Type 0} → Ends i ps o s p A B
-      → (s.size ≤ length o → length p ≡ length o → A → Ends s.size qs p r q C D) → ((s.stop ≡ 0 → ⊥) → B → (r ≡ s) × D) → Ends i (ps ++ qs) o r q C D
-  ends_then {i} {s} {r} {ps} {qs} {o} {p} {q} {C = C} {D = D} (went e l m f a) k h = go (k l same a)
+  -- records that fit, and then others
+  ends_then : {i : ℕ} {s : Tally} {r : Result Tally Stopped} {ps qs : List Piece} {o p q : List ℕ} {A C : Tally → Type 0} {B D : Type 0} → Ends i ps o (Ok s) p A B
+      → (s.size ≤ length o → length p ≡ length o → A s → Ends s.size qs p r q C D) → Ends i (ps ++ qs) o r q C D
+  ends_then {i} {s} {r} {ps} {qs} {o} {p} {q} {A} {C} {D = D} (went {t} n e l m f a) k = go (k (omega (arith, same_size)) same (subst A (sym is) a))
     where
+      is : s ≡ t
+      is = cc
+
+      same_size : s.size ≡ t.size
+      same_size = ap (λ (x : Tally). x.size) is
+
       same : length p ≡ length o
       same = ap length m ∙ put_length writing i (bytes_of ps) o
 
+      on : (rest : List Piece) → fitting (length o) W i ((ps ++ qs) ++ rest) ≡ fitting (length p) W s.size (qs ++ rest)
+      on rest = ap (fitting (length o) W i) (append_assoc ps qs rest) ∙ f (qs ++ rest) ∙ ap₂ (λ (n m : ℕ). fitting n W m (qs ++ rest)) (sym same) (sym same_size)
+
       go : Ends s.size qs p r q C D → Ends i (ps ++ qs) o r q C D
-      go (went e₁ l₁ m₁ f₁ c) =
+      go (went {t = u} n₁ e₁ l₁ m₁ f₁ c) =
           let n : length (bytes_of (ps ++ qs)) ≡ length (bytes_of ps) + length (bytes_of qs) = ap length (bytes_join ps qs) ∙ length-append (bytes_of ps) (bytes_of qs) in
-          went (omega arith) (omega (arith, same))
-          (m₁ ∙ ap₂ (λ (j : ℕ) (x : List ℕ). put writing j (bytes_of qs) x) e m ∙ put_join writing i (bytes_of ps) (bytes_of qs) o ∙ ap (λ (x : List ℕ). put writing i x o) (sym (bytes_join ps qs)))
-          (λ rest. ap (fitting (length o) W i) (append_assoc ps qs rest) ∙ f (qs ++ rest) ∙ subst (λ (n : ℕ). fitting n W s.size (qs ++ rest) ≡ fitting n W r.size rest) same (f₁ rest)) c
-      go (halts e₁ f₁ d) =
-          halts e₁ (λ rest. ap (fitting (length o) W i) (append_assoc ps qs rest) ∙ f (qs ++ rest) ∙ subst (λ (n : ℕ). fitting n W s.size (qs ++ rest) ≡ stops r.stop) same (f₁ rest)) d
-  ends_then {i} {s} {r} {ps} {qs} {o} (halts e f b) k h =
-      let d = h (halts_stop e) b in
-      halts (subst (λ (x : Tally). (x.stop ≡ 25) ⊎ (x.stop ≡ 26)) (sym d.0) e)
-      (λ rest. ap (fitting (length o) W i) (append_assoc ps qs rest) ∙ f (qs ++ rest) ∙ ap (λ (x : Tally). stops x.stop) (sym d.0)) d.1
+          let z : s.size ≡ i + length (bytes_of ps) = same_size ∙ e in
+          went n₁ (omega arith) (omega (arith, same))
+          (m₁ ∙ ap₂ (λ (j : ℕ) (x : List ℕ). put writing j (bytes_of qs) x) z m ∙ put_join writing i (bytes_of ps) (bytes_of qs) o ∙ ap (λ (x : List ℕ). put writing i x o) (sym (bytes_join ps qs)))
+          (λ rest. on rest ∙ f₁ rest ∙ ap (λ (n : ℕ). fitting n W u.size rest) same) c
+      go (halts n₁ e₁ f₁ d) = halts n₁ e₁ (λ rest. on rest ∙ f₁ rest) d
+  ends_then (halts n e f b) k = let z : ◌≡◌ {A = ℕ} 0 1 = cc in absurd (omega arith)
+
+  -- records in which the writing stops, whatever others follow
+  ends_halt : {i : ℕ} {e : Stopped} {ps : List Piece} {o p : List ℕ} {A C : Tally → Type 0} {B : Type 0} (qs : List Piece) → Ends i ps o (Err e) p A B → Ends i (ps ++ qs) o (Err e) p C B
+  ends_halt qs (went n e l m f a) = let z : ◌≡◌ {A = ℕ} 0 1 = cc in absurd (omega arith)
+  ends_halt {i} {ps = ps} {o} qs (halts n e f b) = halts n e (λ rest. ap (fitting (length o) W i) (append_assoc ps qs rest) ∙ f (qs ++ rest)) b
 
 -- ---- what has appeared
 -- of all that appear, ys
@@ -177,7 +191,6 @@ module _ (X : Setting) (u : ℕ) (ys : List ℕ) (writing : Bool) where
     pub within : t.due ≤ X.limits.work
     pub goods : Goods X.rules.functions u ts
     pub nodes : DueAre X w ts
-    pub going : t.stop ≡ 0
 
 -- a held function applied is one of the rules
 held_applied : (X : Setting) (h : Held) (f : ℕ) (us : Terms) → IsHeld X.rules h (app f us) → (raws : Terms) × (behind : Terms) × TermsAt X.rules h.place.0 (app f raws ∷ₜ behind) × (us ≡ insts (from h.base.0) raws)
@@ -241,16 +254,16 @@ module _ (X : Setting) (s : Store) (k u : ℕ) (ys : List ℕ) (writing : Bool) 
 
   -- other terms due
   here_due : {t : Tally} {w seen : List ℕ} {ts : Terms} → Here t w seen ts → (n : ℕ) (us : Terms) → n ≡ count us → n ≤ W → Goods X.rules.functions u us → DueAre X w us → Here (with_due n t) w seen us
-  here_due a n us e l g d = record { aside = a.aside; numbers = a.numbers; counts = a.counts; due = e; within = l; goods = g; nodes = d; going = a.going }
+  here_due a n us e l g d = record { aside = a.aside; numbers = a.numbers; counts = a.counts; due = e; within = l; goods = g; nodes = d }
 
   -- the front node with the value a, and what is left then
-  record Stepped (t : Tally) (seen : List ℕ) (a : Term) (ts : Terms) (o : List ℕ) (r : Tally) (v p : List ℕ) : Type 0 where
+  record Stepped (t : Tally) (seen : List ℕ) (a : Term) (ts : Terms) (o : List ℕ) (r : Result Tally Stopped) (v p : List ℕ) : Type 0 where
     seen' : List ℕ
     ts' : Terms
     front : Piece
     pieces : records (a ∷ₜ vals ts) ≡ front ∷ records (vals ts')
     appear' : appears seen (a ∷ₜ vals ts) ≡ appears seen' (vals ts')
-    ends : Ends writing W t.size (front ∷ []) o r p (Here r v seen' ts') (Aside X w₀ v)
+    ends : Ends writing W t.size (front ∷ []) o r p (λ z. Here z v seen' ts') (Aside X w₀ v)
 
   out_count : (ts : Terms) → count (insts ρ (vals ts)) ≡ count ts
   out_count ts = count_insts _ (vals ts) ∙ count_insts (value s) ts
@@ -259,17 +272,17 @@ module _ (X : Setting) (s : Store) (k u : ℕ) (ys : List ℕ) (writing : Bool) 
   base_at a = base_aside X a.aside c.base
 
   -- a free variable
-  free_ends : {t r : Tally} {x : ℕ} {w o v p : List ℕ} (seen : List ℕ) (ts : Terms) → x < u → length o < 2 ^ 63 → Here t w seen ts → Leads ys (appear seen (var x)) → (d : ℕ) → d ≡ count ts
-      → FreeNode (lay X) writing t x w o r v p → Ends writing W t.size (piece (an_answer_variable ∷ two (index ys x)) d ∷ []) o r p (Here r v (appear seen (var x)) ts) (Aside X w₀ v)
-  unfolding two bytes_of layout_of
-  free_ends {t} {x = x} {o = o} seen ts l big a leads d m (variable_full h) = halts (inr refl) (λ rest. fitting_full (length o) W t.size (an_answer_variable ∷ two (index ys x)) d rest (omega arith)) a.aside
+  free_ends : {t : Tally} {r : Result Tally Stopped} {x : ℕ} {w o v p : List ℕ} (seen : List ℕ) (ts : Terms) → x < u → length o < 2 ^ 63 → Here t w seen ts → Leads ys (appear seen (var x)) → (d : ℕ) → d ≡ count ts
+      → FreeNode (lay X) writing t x w o r v p → Ends writing W t.size (piece (an_answer_variable ∷ two (index ys x)) d ∷ []) o r p (λ z. Here z v (appear seen (var x)) ts) (Aside X w₀ v)
+  unfolding two bytes_of layout_of end_number
+  free_ends {t} {x = x} {o = o} seen ts l big a leads d m (variable_full h) = halts refl (inr refl) (λ rest. fitting_full (length o) W t.size (an_answer_variable ∷ two (index ys x)) d rest (omega arith)) a.aside
   free_ends {t} {x = x} {w = w} {o = o} {v = v} seen ts l big a leads d m (variable {n} h e) =
       let q = number_is X u ys writing seen l c.few (base_at a).long c.short a.numbers a.counts leads e in
       let f = a.due in
       let g = a.within in
       let j : n < length ys = q.small in
       let k = c.short in
-      went (omega arith) h
+      went refl (omega arith) h
       (recorded_put writing t.size an_answer_variable n o (omega arith) (omega arith) h big ∙ ap (λ (z : ℕ). put writing t.size (an_answer_variable ∷ two z) o) q.number)
       (λ rest. fitting_on (length o) W t.size (an_answer_variable ∷ two (index ys x)) d rest (omega arith) (omega arith))
       (record {
@@ -280,10 +293,9 @@ module _ (X : Setting) (s : Store) (k u : ℕ) (ys : List ℕ) (writing : Bool) 
         within = a.within;
         goods = a.goods;
         nodes = due_same X w v ts (λ y b z. q.keeps.same y (inr (omega arith))) a.nodes;
-        going = refl;
       })
 
-  free_step : {t r : Tally} {x : ℕ} {w o v p : List ℕ} (seen : List ℕ) (ts : Terms) → x < u → length o < 2 ^ 63 → Here t w seen ts → Leads ys (appear seen (var x))
+  free_step : {t : Tally} {r : Result Tally Stopped} {x : ℕ} {w o v p : List ℕ} (seen : List ℕ) (ts : Terms) → x < u → length o < 2 ^ 63 → Here t w seen ts → Leads ys (appear seen (var x))
       → FreeNode (lay X) writing t x w o r v p → Stepped t seen (var x) ts o r v p
   unfolding insts writes appears
   free_step {x = x} seen ts l big a leads node =
@@ -339,18 +351,18 @@ module _ (X : Setting) (s : Store) (k u : ℕ) (ys : List ℕ) (writing : Bool) 
       (arguments_due X b.raws ts h.base.0 (h.place.0 + 3) w (base_at a) b.stands (omega arith) a.nodes))
 
   -- a function applied
-  function_ends : {t : Tally} {f : ℕ} {h : Held} {w o : List ℕ} {r : Tally} {v p : List ℕ} (seen : List ℕ) (us ts : Terms) → Good X.rules.functions u (app f us) → Applied t f h us ts → length o < 2 ^ 63 → Here t w seen ts → (d : ℕ) → d ≡ count us + count ts
-      → FunctionNode X.file (lay X) W writing t f h w o r v p → Ends writing W t.size (piece (an_application ∷ two f) d ∷ []) o r p (Here r v seen (joined us ts)) (Aside X w₀ v)
-  unfolding two bytes_of layout_of
-  function_ends {t} {f = f} {o = o} seen us ts g b big a d m (function_full l) = halts (inr refl) (λ rest. fitting_full (length o) W t.size (an_application ∷ two f) d rest (omega arith)) a.aside
+  function_ends : {t : Tally} {f : ℕ} {h : Held} {w o : List ℕ} {r : Result Tally Stopped} {v p : List ℕ} (seen : List ℕ) (us ts : Terms) → Good X.rules.functions u (app f us) → Applied t f h us ts → length o < 2 ^ 63 → Here t w seen ts → (d : ℕ) → d ≡ count us + count ts
+      → FunctionNode X.file (lay X) W writing t f h w o r v p → Ends writing W t.size (piece (an_application ∷ two f) d ∷ []) o r p (λ z. Here z v seen (joined us ts)) (Aside X w₀ v)
+  unfolding two bytes_of layout_of end_number
+  function_ends {t} {f = f} {o = o} seen us ts g b big a d m (function_full l) = halts refl (inr refl) (λ rest. fitting_full (length o) W t.size (an_application ∷ two f) d rest (omega arith)) a.aside
   function_ends {t} {f = f} {o = o} seen us ts g b big a d m (crowded l k) =
       let e = b.sum in
-      halts (inl refl) (λ rest. fitting_crowded (length o) W t.size (an_application ∷ two f) d rest (omega arith) (omega arith)) a.aside
+      halts refl (inl refl) (λ rest. fitting_crowded (length o) W t.size (an_application ∷ two f) d rest (omega arith) (omega arith)) a.aside
   function_ends {t} {f = f} {h = h} {w = w} {o = o} {v = v} seen us ts g b big a d m (function l k) =
       let e = b.sum in
       let hi : ℕ = (lay X).work + 2 * (t.due + arity_of X.file f) in
       let keeps = arguments_keep X (arity_of X.file f) t.due h.base.0 (ahead h.place.0 3) w b.few in
-      went (omega arith) l
+      went refl (omega arith) l
       (recorded_put writing t.size an_application f o (omega arith) (function_small X f (count us) g.0) l big)
       (λ rest. fitting_on (length o) W t.size (an_application ∷ two f) d rest (omega arith) (omega arith))
       (record {
@@ -361,10 +373,9 @@ module _ (X : Setting) (s : Store) (k u : ℕ) (ys : List ℕ) (writing : Bool) 
         within = k;
         goods = joined_goods X.rules.functions u us ts g.1 a.goods;
         nodes = applied_due seen us ts b a (omega arith);
-        going = refl;
       })
 
-  function_step : {t r : Tally} {f : ℕ} {h : Held} {w o v p : List ℕ} (seen : List ℕ) (us ts : Terms) → Good X.rules.functions u (app f us) → IsHeld X.rules h (app f us) → length o < 2 ^ 63 → Here t w seen ts
+  function_step : {t : Tally} {r : Result Tally Stopped} {f : ℕ} {h : Held} {w o v p : List ℕ} (seen : List ℕ) (us ts : Terms) → Good X.rules.functions u (app f us) → IsHeld X.rules h (app f us) → length o < 2 ^ 63 → Here t w seen ts
       → FunctionNode X.file (lay X) W writing t f h w o r v p → Stepped t seen (app f (vals us)) ts o r v p
   unfolding insts writes appears
   function_step {f = f} seen us ts g i big a node =
@@ -382,7 +393,7 @@ module _ (X : Setting) (s : Store) (k u : ℕ) (ys : List ℕ) (writing : Bool) 
       }
 
   -- a node, by what following comes to
-  node_step : {t r : Tally} {g : Found} {w o v p : List ℕ} (seen : List ℕ) (b : Term) (ts : Terms) → Comes X g b → Good X.rules.functions u b → ((x : ℕ) → b ≡ var x → Free x s) → length o < 2 ^ 63
+  node_step : {t : Tally} {r : Result Tally Stopped} {g : Found} {w o v p : List ℕ} (seen : List ℕ) (b : Term) (ts : Terms) → Comes X g b → Good X.rules.functions u b → ((x : ℕ) → b ≡ var x → Free x s) → length o < 2 ^ 63
       → Here t w seen ts → Leads ys (appears seen (inst (value s) b ∷ₜ vals ts)) → Node X.file (lay X) W writing t g w o r v p → Stepped t seen (inst (value s) b) ts o r v p
   unfolding insts appears
   node_step {t} {r} {w = w} {o} {v} {p} seen b ts e g free big a leads (is_free {x} d) =
@@ -396,28 +407,27 @@ module _ (X : Setting) (s : Store) (k u : ℕ) (ys : List ℕ) (writing : Bool) 
       subst (λ (z : Term). Stepped t seen z ts o r v p) (sym q) (function_step seen us ts (subst (Good X.rules.functions u) e.1 g) (subst (IsHeld X.rules h) e.1 e.2) big a d)
 
   -- what comes of the nodes with these values
-  abbrev Walked : ℕ → List ℕ → Terms → List ℕ → Tally → List ℕ → List ℕ → Type 0
-  Walked i seen vs o r v p = Ends writing W i (records vs) o r p (Here r v (appears seen vs) []ₜ) (Aside X w₀ v)
-
-  nodes_stopped : {t r : Tally} {w o v p : List ℕ} → Nodes X.file (lay X) W writing k t w o r v p → (t.stop ≡ 0 → ⊥) → Aside X w₀ w → (r ≡ t) × Aside X w₀ v
-  nodes_stopped (node_stopped h) n a = (refl, a)
-  nodes_stopped (none_due h e) n a = absurd (n h)
-  nodes_stopped (next_due h e d m) n a = absurd (n h)
+  abbrev Walked : ℕ → List ℕ → Terms → List ℕ → Result Tally Stopped → List ℕ → List ℕ → Type 0
+  Walked i seen vs o r v p = Ends writing W i (records vs) o r p (λ z. Here z v (appears seen vs) []ₜ) (Aside X w₀ v)
 
   -- a node, and then those due
-  node_then : {t z r : Tally} {o v p x q : List ℕ} (seen : List ℕ) (b : Term) (ts : Terms) → Stepped t seen b ts o z v p → length o < 2 ^ 63 → Leads ys (appears seen (b ∷ₜ vals ts))
+  node_then : {t z : Tally} {r : Result Tally Stopped} {o v p x q : List ℕ} (seen : List ℕ) (b : Term) (ts : Terms) → Stepped t seen b ts o (Ok z) v p → length o < 2 ^ 63 → Leads ys (appears seen (b ∷ₜ vals ts))
       → ((seen : List ℕ) (ts : Terms) → Here z v seen ts → Leads ys (appears seen (vals ts)) → z.size ≤ length p → length p < 2 ^ 63 → Walked z.size seen (vals ts) p r x q)
-      → Nodes X.file (lay X) W writing k z v p r x q → Walked t.size seen (b ∷ₜ vals ts) o r x q
-  node_then {t} {z} {r} {o = o} {p = p} {x = x} {q = q} seen b ts st big leads on nodes =
+      → Walked t.size seen (b ∷ₜ vals ts) o r x q
+  node_then seen b ts st big leads on =
       rw (st.pieces, st.appear')
-      (ends_then writing W st.ends (λ l e a. on st.seen' st.ts' a (subst (Leads ys) st.appear' leads) (omega arith) (omega arith)) (λ n a. nodes_stopped nodes n a))
+      (ends_then writing W st.ends (λ l e a. on st.seen' st.ts' a (subst (Leads ys) st.appear' leads) (omega arith) (omega arith)))
+
+  -- a node in which the writing stops
+  node_halts : {t : Tally} {e : Stopped} {o v p : List ℕ} (seen : List ℕ) (b : Term) (ts : Terms) → Stepped t seen b ts o (Err e) v p → Walked t.size seen (b ∷ₜ vals ts) o (Err e) v p
+  node_halts seen b ts st = rw (st.pieces, st.appear') (ends_halt writing W (records (vals st.ts')) st.ends)
 
   -- the value of a term is that of what it is followed to
   follow_value : (b : Term) → inst (value s) (follow s b) ≡ inst (value s) b
   follow_value b = solves_follow (value s) s (value_solves_itself s c.stored.sound) b
 
   -- a node that is followed
-  followed_step : {t r : Tally} {g : Found} {w o v p : List ℕ} (seen : List ℕ) (b : Term) (ts : Terms) → Comes X g (follow s b) → Good X.rules.functions u b → length o < 2 ^ 63
+  followed_step : {t : Tally} {r : Result Tally Stopped} {g : Found} {w o v p : List ℕ} (seen : List ℕ) (b : Term) (ts : Terms) → Comes X g (follow s b) → Good X.rules.functions u b → length o < 2 ^ 63
       → Here t w seen ts → Leads ys (appears seen (inst (value s) b ∷ₜ vals ts)) → Node X.file (lay X) W writing t g w o r v p → Stepped t seen (inst (value s) b) ts o r v p
   followed_step {t} {r} {o = o} {v} {p} seen b ts comes g big a leads d =
       let e = follow_value b in
@@ -425,22 +435,29 @@ module _ (X : Setting) (s : Store) (k u : ℕ) (ys : List ℕ) (writing : Bool) 
       (node_step seen (follow s b) ts comes (follow_good X.rules.functions u s c.stored.good b g) (follow_free s c.stored.sound b) big a
       (subst (λ (z : Term). Leads ys (appears seen (z ∷ₜ vals ts))) (sym e) leads) d)
 
-  -- the nodes due
-  nodes_walk : {t r : Tally} {w o v p : List ℕ} → Nodes X.file (lay X) W writing k t w o r v p → (seen : List ℕ) (ts : Terms) → Here t w seen ts → Leads ys (appears seen (vals ts))
-      → t.size ≤ length o → length o < 2 ^ 63 → Walked t.size seen (vals ts) o r v p
-  unfolding insts writes appears count
-  nodes_walk (node_stopped h) seen ts a leads l big = absurd (h a.going)
-  nodes_walk (none_due h e) seen []ₜ a leads l big = ends_none writing W l a
-  nodes_walk (none_due h e) seen (b ∷ₜ ts) a leads l big = let d = a.due in absurd (omega arith)
-  nodes_walk (next_due h e d n) seen []ₜ a leads l big = absurd (e a.due)
-  nodes_walk {t} {w = w} (next_due h e d n) seen (b ∷ₜ ts) a leads l big =
+  -- the foremost node due
+  due_step : {t : Tally} {r : Result Tally Stopped} {w o v p : List ℕ} (seen : List ℕ) (b : Term) (ts : Terms) → Here t w seen (b ∷ₜ ts) → Leads ys (appears seen (vals (b ∷ₜ ts))) → length o < 2 ^ 63
+      → NextNode X.file (lay X) W writing k (with_due (t.due - 1) t) w o r v p → Stepped (with_due (t.due - 1) t) seen (inst (value s) b) ts o r v p
+  unfolding insts count
+  due_step {t} {w = w} seen b ts a leads big d =
       let q = a.due in
       let m : t.due - 1 ≡ count ts = omega arith in
       let g = a.goods.0 in
       let y = a.within in
       let held : Held = due_at w (lay X) (t.due - 1) in
       let comes = found_comes X (followed k X.file w (lay X) held) (follow s b) (follows X w k u s (stored_aside X a.aside c.few c.stored) held b (subst (λ (i : ℕ). IsHeld X.rules (due_at w (lay X) i) b) (sym m) a.nodes.0) g) in
-      node_then seen (inst (value s) b) ts (followed_step seen b ts comes g big (here_due a (t.due - 1) ts m (omega arith) a.goods.1 a.nodes.1) leads d) big leads (nodes_walk n) n
+      followed_step seen b ts comes g big (here_due a (t.due - 1) ts m (omega arith) a.goods.1 a.nodes.1) leads d
+
+  -- the nodes due
+  nodes_walk : {t : Tally} {r : Result Tally Stopped} {w o v p : List ℕ} → Nodes X.file (lay X) W writing k t w o r v p → (seen : List ℕ) (ts : Terms) → Here t w seen ts → Leads ys (appears seen (vals ts))
+      → t.size ≤ length o → length o < 2 ^ 63 → Walked t.size seen (vals ts) o r v p
+  unfolding insts writes appears count
+  nodes_walk (none_due h) seen []ₜ a leads l big = ends_none writing W l a
+  nodes_walk (none_due h) seen (b ∷ₜ ts) a leads l big = let d = a.due in absurd (omega arith)
+  nodes_walk (node_stopped h d) seen []ₜ a leads l big = absurd (h a.due)
+  nodes_walk (node_stopped h d) seen (b ∷ₜ ts) a leads l big = node_halts seen (inst (value s) b) ts (due_step seen b ts a leads big d)
+  nodes_walk (next_due h d n) seen []ₜ a leads l big = absurd (h a.due)
+  nodes_walk (next_due h d n) seen (b ∷ₜ ts) a leads l big = node_then seen (inst (value s) b) ts (due_step seen b ts a leads big d) big leads (nodes_walk n)
 
   -- the value of a query variable
   value_comes : {w : List ℕ} → Aside X w₀ w → (x : ℕ) → x < u → Comes X (value_of k X.file w (lay X) x) (follow s (var x))
@@ -460,30 +477,37 @@ module _ (X : Setting) (s : Store) (k u : ℕ) (ys : List ℕ) (writing : Bool) 
           (subst (Comes X (followed k X.file w (lay X) r.0)) (sym (follow_bound s x y stored.sound b))
           (found_comes X (followed k X.file w (lay X) r.0) (follow s y) (follows X w k u s stored r.0 y r.2 (bound_good X.rules.functions u s x y stored.good b))))
 
-  value_walk : {t r : Tally} {x : ℕ} {w o v p : List ℕ} → Value X.file (lay X) W writing k t x w o r v p → (seen : List ℕ) → x < u → Here t w seen []ₜ → Leads ys (appears seen (value s x ∷ₜ []ₜ))
+  value_step : {t : Tally} {r : Result Tally Stopped} {x : ℕ} {w o v p : List ℕ} → Node X.file (lay X) W writing (with_due 0 t) (value_of k X.file w (lay X) x) w o r v p → (seen : List ℕ) → x < u → Here t w seen []ₜ
+      → Leads ys (appears seen (value s x ∷ₜ []ₜ)) → length o < 2 ^ 63 → Stepped (with_due 0 t) seen (value s x) []ₜ o r v p
+  unfolding insts count
+  value_step {x = x} d seen l a leads big = followed_step seen (var x) []ₜ (value_comes a.aside x l) l big (here_due a 0 []ₜ refl (omega arith) tt tt) leads d
+
+  value_walk : {t : Tally} {r : Result Tally Stopped} {x : ℕ} {w o v p : List ℕ} → Value X.file (lay X) W writing k t x w o r v p → (seen : List ℕ) → x < u → Here t w seen []ₜ → Leads ys (appears seen (value s x ∷ₜ []ₜ))
       → length o < 2 ^ 63 → Walked t.size seen (value s x ∷ₜ []ₜ) o r v p
   unfolding insts count
-  value_walk {x = x} (whole_value d n) seen l a leads big =
-      node_then seen (value s x) []ₜ (followed_step seen (var x) []ₜ (value_comes a.aside x l) l big (here_due a 0 []ₜ refl (omega arith) tt tt) leads d) big leads (nodes_walk n) n
-
-  values_stopped : {t r : Tally} {n x : ℕ} {w o v p : List ℕ} → Values X.file (lay X) W writing k n x t w o r v p → (t.stop ≡ 0 → ⊥) → Aside X w₀ w → (r ≡ t) × Aside X w₀ v
-  values_stopped (no_more h) n a = (refl, a)
-  values_stopped (value_stopped h e) n a = (refl, a)
-  values_stopped (next_value h e d m) n a = absurd (n e)
+  value_walk {x = x} (first_stopped d) seen l a leads big = node_halts seen (value s x) []ₜ (value_step d seen l a leads big)
+  value_walk {x = x} (whole_value d n) seen l a leads big = node_then seen (value s x) []ₜ (value_step d seen l a leads big) big leads (nodes_walk n)
 
   -- the values of the variables from y on
-  pub values_walk : {n : ℕ} {t r : Tally} {x : ℕ} {w o v p : List ℕ} → Values X.file (lay X) W writing k n x t w o r v p → (seen : List ℕ) (y m : ℕ) → x ≡ y → y + m ≡ n → n ≤ u → Here t w seen []ₜ
+  pub values_walk : {n : ℕ} {t : Tally} {r : Result Tally Stopped} {x : ℕ} {w o v p : List ℕ} → Values X.file (lay X) W writing k n x t w o r v p → (seen : List ℕ) (y m : ℕ) → x ≡ y → y + m ≡ n → n ≤ u → Here t w seen []ₜ
       → Leads ys (appears seen (values_from y m (value s))) → t.size ≤ length o → length o < 2 ^ 63
-      → Ends writing W t.size (write_each (insts ρ (values_from y m (value s)))) o r p (Here r v (appears seen (values_from y m (value s))) []ₜ) (Aside X w₀ v)
+      → Ends writing W t.size (write_each (insts ρ (values_from y m (value s)))) o r p (λ z. Here z v (appears seen (values_from y m (value s))) []ₜ) (Aside X w₀ v)
   unfolding values_from insts write_each writes appears count
   values_walk (no_more h) seen y zero e f g a leads l big = ends_none writing W l a
   values_walk (no_more h) seen y (suc m) e f g a leads l big = absurd (omega arith)
-  values_walk (value_stopped h n) seen y m e f g a leads l big = absurd (n a.going)
-  values_walk (next_value h n d rest) seen y zero e f g a leads l big = absurd (omega arith)
-  values_walk {n} {t} {r} {o = o} {v} {p} (next_value {x} h z d rest) seen y (suc m) e f g a leads l big =
+  values_walk (value_stopped h d) seen y zero e f g a leads l big = absurd (omega arith)
+  values_walk {t} {o = o} {v} {p} (value_stopped {e = x} h d) seen y (suc m) e f g a leads l big =
       let vs : Terms = insts ρ (values_from (suc y) m (value s)) in
       let one : Term = inst ρ (value s y) in
       let d' : Value X.file (lay X) W writing k t y _ o _ _ _ = rw e at d in
       let first = value_walk d' seen (omega arith) a (leads_first ys (appear seen (value s y)) (values_from (suc y) m (value s)) leads) big in
-      subst (λ (ps : List Piece). Ends writing W t.size (ps ++ write_each vs) o r p (Here r v (appears (appear seen (value s y)) (values_from (suc y) m (value s))) []ₜ) (Aside X w₀ v)) (append-nil (write one 0))
-      (ends_then writing W first (λ i j b. values_walk rest (appear seen (value s y)) (suc y) m (omega arith) (omega arith) g b leads (omega arith) (omega arith)) (values_stopped rest))
+      subst (λ (ps : List Piece). Ends writing W t.size (ps ++ write_each vs) o (Err x) p (λ z. Here z v (appears (appear seen (value s y)) (values_from (suc y) m (value s))) []ₜ) (Aside X w₀ v)) (append-nil (write one 0))
+      (ends_halt writing W (write_each vs) first)
+  values_walk (next_value h d rest) seen y zero e f g a leads l big = absurd (omega arith)
+  values_walk {t} {r} {o = o} {v} {p} (next_value h d rest) seen y (suc m) e f g a leads l big =
+      let vs : Terms = insts ρ (values_from (suc y) m (value s)) in
+      let one : Term = inst ρ (value s y) in
+      let d' : Value X.file (lay X) W writing k t y _ o _ _ _ = rw e at d in
+      let first = value_walk d' seen (omega arith) a (leads_first ys (appear seen (value s y)) (values_from (suc y) m (value s)) leads) big in
+      subst (λ (ps : List Piece). Ends writing W t.size (ps ++ write_each vs) o r p (λ z. Here z v (appears (appear seen (value s y)) (values_from (suc y) m (value s))) []ₜ) (Aside X w₀ v)) (append-nil (write one 0))
+      (ends_then writing W first (λ i j b. values_walk rest (appear seen (value s y)) (suc y) m (omega arith) (omega arith) g b leads (omega arith) (omega arith)))
