@@ -2,14 +2,13 @@
 -- Assumes nothing.
 use Prim.Native.Nat.{ℕ, ◌+◌, ◌*◌, ◌^◌, ◌≤◌, ◌<◌}
 use mathlib.Core.Path.{◌≡◌, refl, sym, ap, ap₂, ◌∙◌, subst}
-use mathlib.Core.Bool.{Bool, true, false, not, false≢true}
-use mathlib.Core.List.{List, ◌++◌, append-nil}
+use mathlib.Core.Bool.{Bool, true, false, not}
+use mathlib.Core.List.{List, ◌++◌}
 use native.Mathlib.Omega.{arith}
-use lib.Dec.{leb, ltb}
-use lib.ListN.{length, take, drop, set, replicate, length-set}
-use lib.Seq.{length-take-le, drop-length}
-use borrow.Author.Tests.{lt-ltb, le-ltb, le-leb, lt-leb}
-use borrow.Author.Fill.{fill_none, fill_more}
+use lib.Dec.{ltb}
+use lib.ListN.{length, take, drop, replicate}
+use lib.Seq.{length-take-le}
+use borrow.Author.Tests.{lt-ltb, le-ltb}
 use Rattle.laws.specs.IfLaws.{if_true, if_false}
 use Rattle.meaning.specs.If.{when◌then◌else◌}
 use Rattle.meaning.specs.Kinds.{file_limit}
@@ -18,16 +17,16 @@ use Rattle.meaning.specs.Rules.{Rules}
 use Rattle.meaning.specs.Reading.{Read, refused, read, parse}
 use Rattle.meaning.specs.Moves.{Done, run, start}
 use Rattle.meaning.specs.Call.{Result, refusal, result_by, ending, run_read, in_range, needed, output_after, scratch_after}
-use Rattle.meaning.specs.Outcome.{says, to_say}
+use Rattle.meaning.specs.Outcome.{Outcome, says, to_say, fault_number}
 use Rattle.meaning.specs.declared.Place.{Place}
-use Rattle.meaning.specs.declared.Outcome.{Outcome}
-use Rattle.meaning.specs.declared.Outcome.TheVariants.{Refused}
+use Rattle.meaning.specs.declared.Fault.TheVariants.{Limits as LimitsFault, Length, Scratch}
+use Rattle.meaning.specs.declared.Refusal.{Refusal}
 use Rattle.search.specs.declared.Limits.{Limits}
 use Rattle.search.specs.declared.Given.{Given}
 use Rattle.reading.specs.declared.Counts.{Counts}
-use Rattle.reading.specs.declared.Checked.{Checked}
-use Rattle.reading.specs.declared.Checked.TheVariants.{Refused as RefusedChecked, Good}
-use Rattle.reading.specs.Verdict.{verdict}
+use Rattle.std.specs.Prelude.{Result as ResultOf, Ok, Err}
+use Rattle.reading.specs.Verdict.{verdict, refusal as refusal_of}
+use Rattle.reading.specs.Told.{numbers_are_told}
 use Rattle.layout.specs.Stood.{good_files_stand, good_files_fit}
 use Rattle.tables.specs.Stood.{tables_fit}
 use Rattle.tables.specs.Here.{CanLay, HasLaid}
@@ -41,36 +40,6 @@ use Rattle.machine.specs.Running.{Runs}
 use Rattle.machine.specs.Calling.{limits_of, allowed, given_of, Tested, Can, RunsGood, result_of, Called}
 use Rattle.machine.proofs.RunLaws.{Came, run_comes}
 
--- ---- the run limits
-module _ (l : Limits) where
-  pub limits_cells_low : l.cells < 1 → false ≡ allowed l
-  unfolding in_range
-  limits_cells_low h = rw (lt-leb 1 l.cells h) refl
-
-  module _ (a : 1 ≤ l.cells) where
-    pub limits_cells_high : 60_000 < l.cells → false ≡ allowed l
-    unfolding in_range
-    limits_cells_high h = rw (le-leb 1 l.cells a, lt-leb l.cells 60_000 h) refl
-
-    module _ (b : l.cells ≤ 60_000) where
-      pub limits_steps_low : l.steps < 1 → false ≡ allowed l
-      unfolding in_range
-      limits_steps_low h = rw (le-leb 1 l.cells a, le-leb l.cells 60_000 b, lt-leb 1 l.steps h) refl
-
-      module _ (c : 1 ≤ l.steps) where
-        pub limits_steps_high : 60_000 < l.steps → false ≡ allowed l
-        unfolding in_range
-        limits_steps_high h = rw (le-leb 1 l.cells a, le-leb l.cells 60_000 b, le-leb 1 l.steps c, lt-leb l.steps 60_000 h) refl
-
-        module _ (d : l.steps ≤ 60_000) where
-          pub limits_work_low : l.work < 8 → false ≡ allowed l
-          unfolding in_range
-          limits_work_low h = rw (le-leb 1 l.cells a, le-leb l.cells 60_000 b, le-leb 1 l.steps c, le-leb l.steps 60_000 d, lt-leb 8 l.work h) refl
-
-          pub limits_work_high : 8 ≤ l.work → leb l.work 60_000 ≡ allowed l
-          unfolding in_range
-          limits_work_high h = rw (le-leb 1 l.cells a, le-leb l.cells 60_000 b, le-leb 1 l.steps c, le-leb l.steps 60_000 d, le-leb 8 l.work h) refl
-
 pub needed_is : (F : ℕ) (l : Limits) → 64 + 2 * F + 4 * l.cells + 8 * l.steps + 4 * l.work ≡ needed F (limits_of l)
 unfolding needed
 needed_is F l = refl
@@ -80,57 +49,28 @@ pub given_is : (F : ℕ) (l : Limits) (functions predicates : ℕ) (query : Plac
 unfolding given_of layout_of
 given_is F l functions predicates query = refl
 
--- ---- all words become zero
-pub record Wiping (w₀ : List ℕ) (n i : ℕ) (w : List ℕ) : Type 0 where
-  pub all : n ≡ length w₀
-  pub low : i ≤ n
-  pub as_long : length w ≡ length w₀
-  pub is : w ≡ replicate i 0 ++ drop i w₀
-
-pub wiping_start : (w : List ℕ) → Wiping w (length w) 0 w
-wiping_start w = record { all = refl; low = omega arith; as_long = refl; is = fill_none w 0 }
-
-module _ (w₀ : List ℕ) (n i : ℕ) (w : List ℕ) (a : Wiping w₀ n i w) where
-  pub wiping_again : i < n → Wiping w₀ n (i + 1) (set w i 0)
-  wiping_again h =
-      let l = a.as_long in let e = a.all in
-      record { all = e; low = omega arith; as_long = simp length-set l; is = ap (λ (x : List ℕ). set x i 0) a.is ∙ fill_more i 0 w₀ (omega arith) }
-
-  pub wiping_end : n ≤ i → w ≡ replicate (length w₀) 0
-  wiping_end h =
-      let l = a.low in let q = a.all in
-      let e : i ≡ length w₀ = omega arith in
-      a.is ∙ ap (λ (k : ℕ). replicate k 0 ++ drop k w₀) e ∙ ap (replicate (length w₀) 0 ++◌) (drop-length w₀) ∙ append-nil (replicate (length w₀) 0)
-
-  pub wiping_within : i < n → i < length w
-  wiping_within h = let l = a.as_long in let e = a.all in omega arith
-
 -- ---- a good file
-counts_of : Checked → Counts
-counts_of (RefusedChecked n p) = record { functions = 0; predicates = 0; clauses = 0 }
-counts_of (Good c) = c
+counts_of : ResultOf Counts Refusal → Counts
+counts_of (Err r) = record { functions = 0; predicates = 0; clauses = 0 }
+counts_of (Ok c) = c
 
-good_number : Checked → ℕ
-good_number (RefusedChecked n p) = 0
-good_number (Good c) = 1
+good_number : ResultOf Counts Refusal → ℕ
+good_number (Err r) = 0
+good_number (Ok c) = 1
 
-refused_good : {n : ℕ} {p : Place} {c : Counts} → RefusedChecked n p ≡ Good c → ⊥
+pub refused_good : {r : Refusal} {c : Counts} → ◌≡◌ {A = ResultOf Counts Refusal} (Err r) (Ok c) → ⊥
 unfolding good_number
 refused_good e = let o : ◌≡◌ {A = ℕ} 0 1 = ap good_number e in omega arith
 
 limit_is : file_limit ≡ 60_000
 limit_is = refl
 
-refusal_of : Checked → Result
-refusal_of (RefusedChecked n p) = refusal n p.0
-refusal_of (Good c) = refusal 0 0
-
 module _ (file : List ℕ) (l : Limits) (c : Counts) (w : List ℕ) (a : Can file l c w) where
   room : 64 + 2 * length file ≤ length w
   unfolding needed
   room = let e = a.tested.enough in omega arith
 
-  lay_read : (r : Read Rules) → parse file ≡ r → verdict r ≡ Good c → CanLay file w c.functions c.predicates c.clauses
+  lay_read : (r : Read Rules) → parse file ≡ r → verdict r ≡ Ok c → CanLay file w c.functions c.predicates c.clauses
   unfolding verdict counts_of
   lay_read (refused n p) e f = absurd (refused_good f)
   lay_read (read R seen at) e f = record {
@@ -139,9 +79,9 @@ module _ (file : List ℕ) (l : Limits) (c : Counts) (w : List ℕ) (a : Can fil
     seen = seen;
     end = at;
     good = e;
-    functions_are = ap (λ (x : Checked). (counts_of x).functions) f;
-    predicates_are = ap (λ (x : Checked). (counts_of x).predicates) f;
-    clauses_are = ap (λ (x : Checked). (counts_of x).clauses) f;
+    functions_are = ap (λ (x : ResultOf Counts Refusal). (counts_of x).functions) f;
+    predicates_are = ap (λ (x : ResultOf Counts Refusal). (counts_of x).predicates) f;
+    clauses_are = ap (λ (x : ResultOf Counts Refusal). (counts_of x).clauses) f;
   }
 
   pub can_lay : CanLay file w c.functions c.predicates c.clauses
@@ -209,47 +149,47 @@ module _ (file : List ℕ) (l : Limits) (c : Counts) (w : List ℕ) (a : Can fil
 pub wiped_all : (w u v : List ℕ) → length u ≡ length w → v ≡ replicate (length u) 0 → v ≡ replicate (length w) 0
 wiped_all w u v e z = z ∙ ap (λ (n : ℕ). replicate n 0) e
 
-not-false : (b : Bool) → not b ≡ false → b ≡ true
-not-false true e = refl
-not-false false e = absurd (false≢true (sym e))
-
 -- ---- the whole call
 module _ (file : List ℕ) (l : Limits) (budget wanted : ℕ) (w o : List ℕ) where
   abbrev good : Result
   good = run_read todays (parse file) (limits_of l) budget wanted (length o)
 
   -- a refusal leaves everything as it was
-  refuses : (n : ℕ) (p : Place) → result_of file l budget wanted w o ≡ refusal n p.0 → Called file l budget wanted w o (Refused n p) w o
+  refuses : (r : Refusal) → result_of file l budget wanted w o ≡ refusal (fault_number r.fault) r.place.0 → Called file l budget wanted w o (Err r) w o
   unfolding says to_say scratch_after output_after
-  refuses n p e = record {
+  refuses r e = record {
     outcome = ap to_say (sym e);
     words = ap (λ (x : Result). scratch_after x (needed (length file) (limits_of l)) w) (sym e);
     bytes = ap (λ (x : Result). output_after x o) (sym e);
   }
 
-  module _ (b : Bool) (e : b ≡ allowed l) where
-    pub call_limits : not b ≡ true → Called file l budget wanted w o (Refused 1 (record { 0 = 0 })) w o
-    unfolding result_by
-    call_limits f = refuses 1 _ (if_true (not (in_range (limits_of l))) (refusal 1 0) _ (sym (ap not e) ∙ f))
+  -- one that is tested before the file is read has place 0
+  refuses_call : (r : Refusal) (n : ℕ) → fault_number r.fault ≡ n → r.place.0 ≡ 0 → result_of file l budget wanted w o ≡ refusal n 0 → Called file l budget wanted w o (Err r) w o
+  refuses_call r n f p e = refuses r (rw (f, p) e)
 
-    module _ (f : not b ≡ false) where
+  module _ (b : Bool) (e : b ≡ allowed l) (r : Refusal) (p : r.place.0 ≡ 0) where
+    pub call_limits : r.fault ≡ LimitsFault → b ≡ false → Called file l budget wanted w o (Err r) w o
+    unfolding result_by fault_number
+    call_limits k f = refuses_call r 1 (ap fault_number k) p (if_true (not (in_range (limits_of l))) (refusal 1 0) _ (sym (ap not e) ∙ ap not f))
+
+    module _ (f : b ≡ true) where
       no_limits : {r : Result} (s : Result) → s ≡ r → (when not (in_range (limits_of l)) then refusal 1 0 else s) ≡ r
-      no_limits s g = if_false (not (in_range (limits_of l))) (refusal 1 0) s (sym (ap not e) ∙ f) ∙ g
+      no_limits s g = if_false (not (in_range (limits_of l))) (refusal 1 0) s (sym (ap not e) ∙ ap not f) ∙ g
 
-      pub call_long : 60_000 < length file → Called file l budget wanted w o (Refused 2 (record { 0 = 0 })) w o
-      unfolding result_by
-      call_long h = let z = limit_is in refuses 2 _ (no_limits _ (if_true (ltb file_limit (length file)) (refusal 2 0) _ (lt-ltb file_limit (length file) (omega arith))))
+      pub call_long : r.fault ≡ Length → 60_000 < length file → Called file l budget wanted w o (Err r) w o
+      unfolding result_by fault_number
+      call_long k h = let z = limit_is in refuses_call r 2 (ap fault_number k) p (no_limits _ (if_true (ltb file_limit (length file)) (refusal 2 0) _ (lt-ltb file_limit (length file) (omega arith))))
 
       module _ (h : length file ≤ 60_000) (n : ℕ) (k : n ≡ needed (length file) (limits_of l)) where
         not_long : {r : Result} (s : Result) → s ≡ r → (when ltb file_limit (length file) then refusal 2 0 else s) ≡ r
         not_long s g = let z = limit_is in if_false (ltb file_limit (length file)) (refusal 2 0) s (le-ltb file_limit (length file) (omega arith)) ∙ g
 
-        pub call_scratch : length w < n → Called file l budget wanted w o (Refused 3 (record { 0 = 0 })) w o
-        unfolding result_by
-        call_scratch q = refuses 3 _ (no_limits _ (not_long _ (if_true (ltb (length w) (needed (length file) (limits_of l))) (refusal 3 0) _ (lt-ltb (length w) (needed (length file) (limits_of l)) (omega arith)))))
+        pub call_scratch : r.fault ≡ Scratch → length w < n → Called file l budget wanted w o (Err r) w o
+        unfolding result_by fault_number
+        call_scratch s q = refuses_call r 3 (ap fault_number s) p (no_limits _ (not_long _ (if_true (ltb (length w) (needed (length file) (limits_of l))) (refusal 3 0) _ (lt-ltb (length w) (needed (length file) (limits_of l)) (omega arith)))))
 
         pub call_tested : n ≤ length w → Tested file l w
-        call_tested q = let z = limit_is in record { in_limits = sym e ∙ not-false b f; short = omega arith; enough = omega arith }
+        call_tested q = let z = limit_is in record { in_limits = sym e ∙ f; short = omega arith; enough = omega arith }
 
   -- a file whose tests have passed
   module _ (a : Tested file l w) where
@@ -257,21 +197,24 @@ module _ (file : List ℕ) (l : Limits) (budget wanted : ℕ) (w o : List ℕ) w
     unfolding result_by
     read_result =
         let t = a.in_limits in
-        no_limits (in_range (limits_of l)) refl (ap not t) _
-        (not_long (in_range (limits_of l)) refl (ap not t) a.short (needed (length file) (limits_of l)) refl _
+        no_limits (in_range (limits_of l)) refl (record { fault = LimitsFault; place = record { 0 = 0 } }) refl t _
+        (not_long (in_range (limits_of l)) refl (record { fault = LimitsFault; place = record { 0 = 0 } }) refl t a.short (needed (length file) (limits_of l)) refl _
         (if_false (ltb (length w) (needed (length file) (limits_of l))) (refusal 3 0) good (le-ltb (length w) (needed (length file) (limits_of l)) a.enough)))
 
-    module _ (x : Checked) (y : x ≡ verdict (parse file)) where
-      pub read_can : (c : Counts) → x ≡ Good c → Can file l c w
+    module _ (x : ResultOf Counts Refusal) (y : x ≡ verdict (parse file)) where
+      pub read_can : (c : Counts) → x ≡ Ok c → Can file l c w
       read_can c g = record { tested = a; good = sym y ∙ g }
 
-      refused_read : (m : ℕ) (p : Place) (r : Read Rules) → verdict r ≡ RefusedChecked m p → run_read todays r (limits_of l) budget wanted (length o) ≡ refusal m p.0
-      unfolding verdict run_read refusal_of
-      refused_read m p (refused n k) g = ap refusal_of g
-      refused_read m p (read R seen at) g = absurd (refused_good (sym g))
+      refused_read : (e : Refusal) (r : Read Rules) → parse file ≡ r → verdict r ≡ Err e → run_read todays r (limits_of l) budget wanted (length o) ≡ refusal (fault_number e.fault) e.place.0
+      unfolding verdict run_read
+      refused_read e (refused n k) f g =
+          let z : refusal_of n k ≡ e = cc in
+          let q = numbers_are_told file n k f in
+          rw (← z, q) refl
+      refused_read e (read R seen at) f g = absurd (refused_good (sym g))
 
-      pub read_refuses : (m : ℕ) (p : Place) → x ≡ RefusedChecked m p → Called file l budget wanted w o (Refused m p) w o
-      read_refuses m p g = refuses m p (read_result ∙ refused_read m p (parse file) (sym y ∙ g))
+      pub read_refuses : (e : Refusal) → x ≡ Err e → Called file l budget wanted w o (Err e) w o
+      read_refuses e g = refuses e (read_result ∙ refused_read e (parse file) refl (sym y ∙ g))
 
   -- a good file has been run in the words that it needs
   module _ (c : Counts) (a : Can file l c w) (n : ℕ) (k : n ≡ needed (length file) (limits_of l)) where
@@ -284,7 +227,7 @@ module _ (file : List ℕ) (l : Limits) (budget wanted : ℕ) (w o : List ℕ) w
     pub part_can : Can file l c (take n w)
     part_can = let p = part_long in record { tested = record { in_limits = a.tested.in_limits; short = a.tested.short; enough = omega arith }; good = a.good }
 
-    run_ends : (r : Read Rules) → verdict r ≡ Good c → (b : ℕ × Done) → run_read todays r (limits_of l) budget wanted (length o) ≡ ending b → scratch_after (run_read todays r (limits_of l) budget wanted (length o)) n w ≡ replicate n 0 ++ drop n w
+    run_ends : (r : Read Rules) → verdict r ≡ Ok c → (b : ℕ × Done) → run_read todays r (limits_of l) budget wanted (length o) ≡ ending b → scratch_after (run_read todays r (limits_of l) budget wanted (length o)) n w ≡ replicate n 0 ++ drop n w
     unfolding ending scratch_after
     run_ends r g b e = rw e refl
 

@@ -4,18 +4,18 @@ use Prim.Native.Nat.{ℕ, ◌^◌, ◌≤◌, ◌<◌}
 use mathlib.Core.Path.{◌≡◌, refl, sym, ◌∙◌}
 use mathlib.Core.List.{List}
 use lib.ListN.{length}
-use Rattle.meaning.specs.declared.End.TheVariants.{Budget, Work, Cells, Steps}
-use Rattle.meaning.specs.declared.Place.{Place}
-use Rattle.cells.specs.declared.Layout.{Layout}
-use Rattle.matching.specs.Matching.{MatchesPairs, late, differed, crowded_out, matched_all, next_pair as next_one}
+use Rattle.meaning.specs.declared.End.TheVariants.{Budget, Work}
+use Rattle.matching.specs.Matching.{MatchesPairs, late, clashed, matched_all, next_pair as next_one}
 use Rattle.matching.specs.declared.Came.{Came}
-use Rattle.matching.specs.declared.Came.TheVariants.{Matched, Differed, Crowded, Late}
+use Rattle.matching.specs.declared.Came.TheVariants.{Matched, Clashed, Late}
+use Rattle.matching.specs.declared.Clash.TheVariants.{Differ, Over as Overfull}
 use Rattle.matching.specs.declared.Matched.{Matched as MatchedPairs}
-use Rattle.search.specs.Search.{Backs, GoesOn, matched, more, room_of, Enters, over_cells, over_steps, tries, same, differ, over_work}
+use Rattle.search.specs.Search.{Backs, GoesOn, matched, more, room_of, Enters, no_room, tries, same, differ, over_work}
 use Rattle.search.specs.declared.Given.{Given}
 use Rattle.search.specs.declared.Regs.{Regs}
-use Rattle.search.specs.declared.Room.{Room}
-use Rattle.search.specs.declared.Room.TheVariants.{Cells as RoomCells, Steps as RoomSteps, Fits}
+use Rattle.std.specs.Prelude.{Result, Ok, Err}
+use Rattle.meaning.specs.declared.End.{End}
+use Rattle.search.specs.declared.Fits.{Fits}
 use Rattle.search.specs.declared.Trial.{Trial}
 use Rattle.search.specs.declared.Due.{Due}
 use Rattle.search.specs.declared.Due.TheVariants.{Try, Over}
@@ -23,19 +23,6 @@ use Rattle.machine.specs.Running.{spent, matched_regs, Leads, leads_on, leads_ba
 use Rattle.machine.proofs.Laws.{backs_apart, goes_apart, units_left, next_fewer}
 
 -- ---- the pairs of a head
-module _ (file : List ℕ) (lay : Layout) (m : Regs) (r : MatchedPairs) (c : Came) (e : c ≡ r.came) (w : List ℕ) where
-  pub lead_on : (d : Due) (v : List ℕ) → c ≡ Matched → GoesOn file lay (matched_regs m r) w d v → Leads file lay m r w d v
-  lead_on d v f b = leads_on (sym e ∙ f) b
-
-  pub lead_back : (d : Due) (v : List ℕ) → c ≡ Differed → Backs lay (matched_regs m r) r.trail m.choice w d v → Leads file lay m r w d v
-  lead_back d v f b = leads_back (sym e ∙ f) b
-
-  pub lead_over : c ≡ Crowded → Leads file lay m r w (Over Work (matched_regs m r)) w
-  lead_over f = leads_over (sym e ∙ f)
-
-  pub lead_late : c ≡ Late → Leads file lay m r w (Over Budget (matched_regs m r)) w
-  lead_late f = leads_late (sym e ∙ f)
-
 -- where a run is between two pairs of a head
 abbrev between : Regs → ℕ → ℕ → ℕ → ℕ → Regs
 between m trail work fresh units = record { cells = m.cells; trail = trail; steps = m.steps; choice = m.choice; work = work; fresh = fresh; next = m.next; units = units }
@@ -44,8 +31,8 @@ module _ (file : List ℕ) (g : Given) (budget : ℕ) (m : Regs) where
   -- what comes of a head, by how its pairs came out
   abbrev Leading : Came → Regs → List ℕ → Due → List ℕ → Type 0
   Leading Matched n v d u = GoesOn file g.lay n v d u
-  Leading Differed n v d u = Backs g.lay n n.trail n.choice v d u
-  Leading Crowded n v d u = (d ≡ Over Work n) × (u ≡ v)
+  Leading (Clashed Differ) n v d u = Backs g.lay n n.trail n.choice v d u
+  Leading (Clashed Overfull) n v d u = (d ≡ Over Work n) × (u ≡ v)
   Leading Late n v d u = (d ≡ Over Budget n) × (u ≡ v)
 
   leading : {r : MatchedPairs} {v u : List ℕ} {d : Due} → Leads file g.lay m r v d u → Leading r.came (matched_regs m r) v d u
@@ -58,8 +45,8 @@ module _ (file : List ℕ) (g : Given) (budget : ℕ) (m : Regs) where
       → MovesPairs file g budget (between m trail work fresh units) w d u
   unfolding spent
   leads (late h) (e, f) = rw (e, f) (too_late h)
-  leads (differed h a) b = last_pair h (backs_apart b) (differ a b)
-  leads (crowded_out h a) (e, f) = rw (e, f) (last_pair h tt (over_work a))
+  leads (clashed {c = Differ} h a) b = last_pair h (backs_apart b) (differ a b)
+  leads (clashed {c = Overfull} h a) (e, f) = rw (e, f) (last_pair h tt (over_work a))
   leads (matched_all h a z) b = last_pair h (goes_apart b) (same a (matched z b))
   leads (next_one h a z c) b = next_pair h (same a (more z)) (leads c b)
 
@@ -71,16 +58,13 @@ module _ (file : List ℕ) (g : Given) (budget : ℕ) (m : Regs) where
   head_whole w v d z b = none_to_match z b
 
 -- ---- trying a head
-module _ (file : List ℕ) (g : Given) (budget : ℕ) (t : Trial) (m : Regs) (w : List ℕ) (x : Room) (e : x ≡ room_of file w g t.clause m) where
-  pub try_cells : x ≡ RoomCells → TriesPairs file g budget t m w (Over Cells m) w
-  try_cells f = no_pairs tt (over_cells (sym e ∙ f))
+module _ (file : List ℕ) (g : Given) (budget : ℕ) (t : Trial) (m : Regs) (w : List ℕ) (x : Result Fits End) (e : x ≡ room_of file w g t.clause m) where
+  pub try_over : (z : End) → x ≡ Err z → TriesPairs file g budget t m w (Over z m) w
+  try_over z f = no_pairs tt (no_room (sym e ∙ f))
 
-  pub try_steps : x ≡ RoomSteps → TriesPairs file g budget t m w (Over Steps m) w
-  try_steps f = no_pairs tt (over_steps (sym e ∙ f))
-
-  pub try_fits : (p : Place) (variables : ℕ) (n : Regs) (d : Due) (v u : List ℕ) → x ≡ Fits p variables → Enters file g t m p variables w n v → MatchesHead file g budget n v d u → TriesPairs file g budget t m w d u
-  try_fits p variables n d v u f a (none_to_match z b) = no_pairs (goes_apart b) (tries (sym e ∙ f) a (matched z b))
-  try_fits p variables n d v u f a (some_to_match z b) = then_pairs (tries (sym e ∙ f) a (more z)) b
+  pub try_fits : (fit : Fits) (n : Regs) (d : Due) (v u : List ℕ) → x ≡ Ok fit → Enters file g t m fit.place fit.variables w n v → MatchesHead file g budget n v d u → TriesPairs file g budget t m w d u
+  try_fits fit n d v u f a (none_to_match z b) = no_pairs (goes_apart b) (tries (sym e ∙ f) a (matched z b))
+  try_fits fit n d v u f a (some_to_match z b) = then_pairs (tries (sym e ∙ f) a (more z)) b
 
 -- ---- heads: what is left to try comes to the same
 pub record Trying (file : List ℕ) (g : Given) (budget : ℕ) (m₀ : Regs) (x₀ : Trial) (w₀ : List ℕ) (m : Regs) (x : Trial) (w : List ℕ) : Type 0 where

@@ -1,8 +1,8 @@
 -- What each return and each turn of a loop of the machine says.
 -- Assumes nothing.
 use Prim.Native.Nat.{ℕ, ◌+◌, ◌-◌, ◌*◌, ◌^◌, ◌≤◌, ◌<◌}
-use mathlib.Core.Path.{◌≡◌, refl, sym, ◌∙◌}
-use mathlib.Core.Bool.{Bool, true, false, false≢true}
+use mathlib.Core.Path.{◌≡◌, refl, ◌∙◌}
+use mathlib.Core.Bool.{true, false≢true}
 use mathlib.Core.List.{List, [], append-nil}
 use native.Mathlib.Omega.{arith}
 use lib.ListN.{length, take, drop, length-drop}
@@ -10,22 +10,20 @@ use lib.Seq.{take_all, drop-length}
 use borrow.Rule.Slice.PartMut.{mid_of, put_mid}
 use Rattle.meaning.specs.Reading.{byte}
 use Rattle.meaning.specs.declared.End.{End}
-use Rattle.meaning.specs.declared.End.TheVariants.{Wanted, Budget, Work, Output}
-use Rattle.meaning.specs.declared.Outcome.{Outcome}
-use Rattle.meaning.specs.declared.Outcome.TheVariants.{Ended}
+use Rattle.meaning.specs.declared.End.TheVariants.{Wanted, Budget, Output}
+use Rattle.meaning.specs.Outcome.{Outcome, ended_with}
 use Rattle.words.specs.Words.{plus, ahead}
 use Rattle.simulation.specs.Pushing.{plus_small}
-use Rattle.search.specs.Search.{Backs, no_choice, retries, pops, retried, Calls, no_clause, first_clause, GoesOn, a_cut, no_goal, a_goal, MatchesOn, matched, more, enters, entered_regs, TriesHead, over_cells, over_steps, tries, MovesPair, same, differ, over_work, cut_regs, MovesCut, cuts, Starts, none_wanted, few_cells, starts}
+use Rattle.search.specs.Search.{Backs, no_choice, retries, pops, retried, Calls, no_clause, first_clause, GoesOn, a_cut, no_goal, a_goal, MatchesOn, matched, more, enters, entered_regs, TriesHead, no_room, tries, MovesPair, same, differ, over_work, cut_regs, MovesCut, cuts, Starts, none_wanted, few_cells, starts}
 use Rattle.search.specs.declared.Given.{Given}
 use Rattle.search.specs.declared.Regs.{Regs}
 use Rattle.search.specs.declared.Trial.{Trial}
 use Rattle.search.specs.declared.Due.{Due}
 use Rattle.search.specs.declared.Due.TheVariants.{Try, Pair, Cut, Answer, Over}
 use Rattle.answers.specs.Answering.{Answers}
-use Rattle.answers.specs.declared.Wrote.{Wrote}
-use Rattle.answers.specs.declared.Wrote.TheVariants.{Bytes, Full, Crowded}
+use Rattle.std.specs.Prelude.{Result, Ok, Err}
 use Rattle.machine.specs.declared.run.Written.{Written}
-use Rattle.machine.specs.Running.{spent, behind_of, going_on, over_of, ended_of, WritesBehind, written_behind, Lists, no_output, last_wanted, goes_back, full, crowded, Moves, try_late, pair_late, cut_late, tries_one, pairs_one, cuts_one, lists, is_over, MovesPairs, too_late, last_pair, next_pair, TriesPairs, no_pairs, then_pairs, TriesHeads, head_late, last_head, next_head, NoPair, Turns, one, heads, RunsFrom, stops, onward, nothing_yet, Runs, runs}
+use Rattle.machine.specs.Running.{spent, behind_of, going_on, over_of, ended_of, WritesBehind, written_behind, Lists, no_output, last_wanted, goes_back, no_answer, Moves, try_late, pair_late, cut_late, tries_one, pairs_one, cuts_one, lists, is_over, MovesPairs, too_late, last_pair, next_pair, TriesPairs, no_pairs, then_pairs, TriesHeads, head_late, last_head, next_head, NoPair, Cuts, no_unit, a_unit, Turns, one, heads, RunsFrom, stops, onward, nothing_yet, Runs, runs}
 
 pub spend_is : (m : Regs) (u : ℕ) → u ≡ plus m.units 1 → ◌≡◌ {A = Regs} (record { cells = m.cells; trail = m.trail; steps = m.steps; choice = m.choice; work = m.work; fresh = m.fresh; next = m.next; units = u }) (spent m)
 unfolding spent
@@ -35,53 +33,9 @@ pub behind_is : (t : Written) (size a b : ℕ) → a ≡ plus t.answers 1 → b 
 unfolding behind_of
 behind_is t size a b e f = rw (e, f) refl
 
-pub over_is : (e : End) (m : Regs) (t : Written) → Ended e (record { answers = t.answers; units = m.units; bytes = t.bytes }) ≡ over_of e m t
+pub over_is : (e : End) (m : Regs) (t : Written) → ended_with e (record { answers = t.answers; units = m.units; bytes = t.bytes }) ≡ over_of e m t
 unfolding over_of
 over_is e m t = refl
-
--- ---- whether a run goes on, and how it ended
-module _ (d : Due) (m : Regs) where
-  pub over_stops : (e : End) → d ≡ Over e m → false ≡ going_on d
-  unfolding going_on
-  over_stops e q = rw q refl
-
-  pub try_goes : (x : Trial) → d ≡ Try m x → true ≡ going_on d
-  unfolding going_on
-  try_goes x q = rw q refl
-
-  pub pair_goes : d ≡ Pair m → true ≡ going_on d
-  unfolding going_on
-  pair_goes q = rw q refl
-
-  pub cut_goes : d ≡ Cut m → true ≡ going_on d
-  unfolding going_on
-  cut_goes q = rw q refl
-
-  pub answer_goes : d ≡ Answer m → true ≡ going_on d
-  unfolding going_on
-  answer_goes q = rw q refl
-
-  module _ (t : Written) (r : Outcome) where
-    pub over_ends : (e : End) → d ≡ Over e m → r ≡ over_of e m t → r ≡ ended_of d t
-    unfolding ended_of
-    over_ends e q f = rw q f
-
-    module _ (f : r ≡ over_of Budget m t) where
-      pub try_ends : (x : Trial) → d ≡ Try m x → r ≡ ended_of d t
-      unfolding ended_of
-      try_ends x q = rw q f
-
-      pub pair_ends : d ≡ Pair m → r ≡ ended_of d t
-      unfolding ended_of
-      pair_ends q = rw q f
-
-      pub cut_ends : d ≡ Cut m → r ≡ ended_of d t
-      unfolding ended_of
-      cut_ends q = rw q f
-
-      pub answer_ends : d ≡ Answer m → r ≡ ended_of d t
-      unfolding ended_of
-      answer_ends q = rw q f
 
 -- ---- between heads no pair is due
 pub backs_apart : {lay : _} {m : Regs} {trail c : ℕ} {w u : List ℕ} {d : Due} → Backs lay m trail c w d u → NoPair d
@@ -103,8 +57,7 @@ lists_apart : {file : _} {g : Given} {wanted : ℕ} {m : Regs} {t s : Written} {
 lists_apart (no_output h) = tt
 lists_apart (last_wanted h a e) = tt
 lists_apart (goes_back h a e b) = backs_apart b
-lists_apart (full h a) = tt
-lists_apart (crowded h a) = tt
+lists_apart (no_answer h a) = tt
 
 starts_apart : {file : _} {g : Given} {wanted : ℕ} {w v : List ℕ} {d : Due} → Starts file g wanted w d v → NoPair d
 starts_apart (none_wanted e) = tt
@@ -129,10 +82,19 @@ turns_apart : {file : _} {g : Given} {budget wanted : ℕ} {d n : Due} {t s : Wr
 turns_apart (one n a) = n
 turns_apart (heads a) = heads_apart a
 
+-- ---- a cut
+module _ (file : List ℕ) (g : Given) (budget : ℕ) (m : Regs) (w : List ℕ) where
+  pub cut_no_unit : budget ≤ m.units → Cuts file g budget m w (Over Budget m) w
+  cut_no_unit h = no_unit h
+
+  pub cut_a_unit : (s : Regs) (d : Due) (v : List ℕ) → s ≡ spent m → m.units < budget → MovesCut file g.lay s w d v → Cuts file g budget m w d v
+  cut_a_unit s d v e h a = a_unit h (rw e at a)
+
 -- ---- one turn
 module _ (file : List ℕ) (g : Given) (budget wanted : ℕ) (d : Due) (t : Written) (w o : List ℕ) (m : Regs) where
-  pub turn_cut_late : d ≡ Cut m → budget ≤ m.units → Turns file g budget wanted d t w o (Over Budget m) t w o
-  turn_cut_late q h = rw q (one tt (cut_late h))
+  pub turn_cut : (n : Due) (v : List ℕ) → d ≡ Cut m → Cuts file g budget m w n v → Turns file g budget wanted d t w o n t v o
+  turn_cut n v q (no_unit h) = rw q (one tt (cut_late h))
+  turn_cut n v q (a_unit h l) = rw q (one (cuts_apart l) (cuts_one h l))
 
   pub turn_over : (e : End) → d ≡ Over e m → Turns file g budget wanted d t w o (Over e m) t w o
   turn_over e q = rw q (one tt is_over)
@@ -147,9 +109,6 @@ module _ (file : List ℕ) (g : Given) (budget wanted : ℕ) (d : Due) (t : Writ
     pub turn_heads : (x : Trial) → d ≡ Try m x → TriesHeads file g budget m x w n v → Turns file g budget wanted d t w o n t v o
     turn_heads x q l = rw q (heads l)
 
-    pub turn_cut : (s : Regs) → s ≡ spent m → m.units < budget → d ≡ Cut m → MovesCut file g.lay s w n v → Turns file g budget wanted d t w o n t v o
-    turn_cut s f h q l = rw q (one (cuts_apart l) (cuts_one h (rw f at l)))
-
 -- ---- the rest of the output is lent
 rest_all : (xs : List ℕ) (n : ℕ) → n ≡ length xs → take n xs ≡ xs
 rest_all xs n e = take_all n xs (omega arith)
@@ -157,7 +116,7 @@ rest_all xs n e = take_all n xs (omega arith)
 rest_none : (xs : List ℕ) (n : ℕ) → n ≡ length xs → drop n xs ≡ []
 rest_none xs n e = rw e (drop-length xs)
 
-pub writes_behind : (file : List ℕ) (g : Given) (m : Regs) (used : ℕ) (w o : List ℕ) (x : ℕ) (r : Wrote) (v p : List ℕ) → x ≡ byte file (g.query.0 + 1) → used ≤ length o
+pub writes_behind : (file : List ℕ) (g : Given) (m : Regs) (used : ℕ) (w o : List ℕ) (x : ℕ) (r : Result ℕ End) (v p : List ℕ) → x ≡ byte file (g.query.0 + 1) → used ≤ length o
     → Answers file g.lay g.limits.work x m.cells m.steps m.trail w (mid_of used (length o - used) o) r v p → WritesBehind file g m used w o r v (put_mid used (length o - used) o p)
 writes_behind file g m used w o x r v p e h a =
     let l = length-drop used o in
@@ -167,14 +126,11 @@ module _ (file : List ℕ) (g : Given) (wanted : ℕ) (m : Regs) (t : Written) (
   pub list_none : length o < t.bytes → Lists file g wanted m t w o (Over Output m) t w o
   list_none h = no_output h
 
-  module _ (x : Wrote) (v p : List ℕ) (h : t.bytes ≤ length o) (a : WritesBehind file g m t.bytes w o x v p) where
-    pub list_full : x ≡ Full → Lists file g wanted m t w o (Over Output m) t v p
-    list_full e = full h (rw e at a)
+  module _ (x : Result ℕ End) (v p : List ℕ) (h : t.bytes ≤ length o) (a : WritesBehind file g m t.bytes w o x v p) where
+    pub list_over : (e : End) → x ≡ Err e → Lists file g wanted m t w o (Over e m) t v p
+    list_over e q = no_answer h (rw q at a)
 
-    pub list_crowded : x ≡ Crowded → Lists file g wanted m t w o (Over Work m) t v p
-    list_crowded e = crowded h (rw e at a)
-
-    module _ (n : ℕ) (s : Written) (e : x ≡ Bytes n) (f : s ≡ behind_of t n) where
+    module _ (n : ℕ) (s : Written) (e : x ≡ Ok n) (f : s ≡ behind_of t n) where
       pub list_last : s.answers ≡ wanted → Lists file g wanted m t w o (Over Wanted m) s v p
       list_last z = rw f (last_wanted h (rw e at a) (rw f at z))
 
@@ -214,8 +170,7 @@ matches_left budget (more e) = omega arith
 
 tries_left : {file : _} {g : Given} {x : Trial} {m : Regs} {w u : List ℕ} {d : Due} (budget : ℕ) → TriesHead file g x m w d u → left budget d ≤ 2 * (budget - m.units) + 2
 unfolding left entered_regs
-tries_left budget (over_cells e) = omega arith
-tries_left budget (over_steps e) = omega arith
+tries_left budget (no_room e) = omega arith
 tries_left budget (tries e enters b) = matches_left budget b
 
 pairs_left : {file : _} {g : Given} {m : Regs} {w u : List ℕ} {d : Due} (budget : ℕ) → MovesPair file g m w d u → left budget d ≤ 2 * (budget - m.units) + 2
@@ -233,8 +188,7 @@ unfolding left
 lists_left budget (no_output h) = omega arith
 lists_left budget (last_wanted h a e) = omega arith
 lists_left budget (goes_back h a e b) = backs_left budget b
-lists_left budget (full h a) = omega arith
-lists_left budget (crowded h a) = omega arith
+lists_left budget (no_answer h a) = omega arith
 
 -- a unit spent below the budget
 spent_less : (budget : ℕ) (m : Regs) → budget < 2 ^ 32 → m.units < budget → 2 * (budget - (spent m).units) + 2 < 2 * (budget - m.units) + 1
@@ -316,13 +270,22 @@ pub record Running (file : List ℕ) (g : Given) (budget wanted : ℕ) (d₀ : D
 pub running_start : (file : List ℕ) (g : Given) (budget wanted : ℕ) (d : Due) (t : Written) (w₀ w o : List ℕ) → Starts file g wanted w₀ d w → Running file g budget wanted d t w o d t w o
 running_start file g budget wanted d t w₀ w o s = record { rest = λ r v p a. a; words_long = refl; bytes_long = refl; apart = starts_apart s }
 
-module _ (file : List ℕ) (g : Given) (budget wanted : ℕ) (d₀ : Due) (t₀ : Written) (w₀ o₀ : List ℕ) (d : Due) (t : Written) (w o : List ℕ) (i : Running file g budget wanted d₀ t₀ w₀ o₀ d t w o) (x : Bool) (e : x ≡ going_on d) where
-  module _ (f : x ≡ true) (n : Due) (s : Written) (v p : List ℕ) (a : Turns file g budget wanted d t w o n s v p) where
+module _ (file : List ℕ) (g : Given) (budget wanted : ℕ) (d₀ : Due) (t₀ : Written) (w₀ o₀ : List ℕ) (d : Due) (t : Written) (w o : List ℕ) (i : Running file g budget wanted d₀ t₀ w₀ o₀ d t w o) where
+  module _ (f : (e : End) (m : Regs) → d ≡ Over e m → ⊥) (n : Due) (s : Written) (v p : List ℕ) (a : Turns file g budget wanted d t w o n s v p) where
+    goes : (x : Due) → d ≡ x → going_on x ≡ true
+    unfolding going_on
+    goes (Over e m) q = absurd (f e m q)
+    goes (Try m x) q = refl
+    goes (Pair m) q = refl
+    goes (Cut m) q = refl
+    goes (Answer m) q = refl
+
     pub running_again : length v ≡ length w → length p ≡ length o → Running file g budget wanted d₀ t₀ w₀ o₀ n s v p
-    running_again k l = record { rest = λ r u q b. i.rest r u q (run_turn (sym e ∙ f) a b); words_long = k ∙ i.words_long; bytes_long = l ∙ i.bytes_long; apart = turns_apart a }
+    running_again k l = record { rest = λ r u q b. i.rest r u q (run_turn (goes d refl) a b); words_long = k ∙ i.words_long; bytes_long = l ∙ i.bytes_long; apart = turns_apart a }
 
     pub running_less : budget < 2 ^ 32 → left budget n < left budget d
-    running_less b = turns_left budget b (sym e ∙ f) a
+    running_less b = turns_left budget b (goes d refl) a
 
-  pub running_end : x ≡ false → (r : Outcome) → r ≡ ended_of d t → (w₁ : List ℕ) → Starts file g wanted w₁ d₀ w₀ → t₀ ≡ nothing_yet → Runs file g budget wanted w₁ o₀ r w o
-  running_end f r q w₁ b z = let c = i.rest r w o (rw q (stops (sym e ∙ f))) in runs b (rw z at c)
+  pub running_end : (e : End) (m : Regs) → d ≡ Over e m → (r : Outcome) → r ≡ over_of e m t → (w₁ : List ℕ) → Starts file g wanted w₁ d₀ w₀ → t₀ ≡ nothing_yet → Runs file g budget wanted w₁ o₀ r w o
+  unfolding ended_of going_on
+  running_end e m f r q w₁ b z = let c = i.rest r w o (rw (f, q) (stops refl)) in runs b (rw z at c)

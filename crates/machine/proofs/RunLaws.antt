@@ -15,8 +15,8 @@ use Rattle.meaning.specs.Outcome.{end_number, ended_as, says}
 use Rattle.meaning.specs.Answers.{Answer, pieces, bytes, output, Fit, stops, fitting}
 use Rattle.meaning.specs.Moves.{Open, cut_to, Derivation, Choice, choice, Move, trying, taking, cutting, Done, State, ended, due, nothing, spend, list, with_goals, fail, answered, put_out, answering, move, start, run}
 use Rattle.meaning.specs.declared.End.{End}
-use Rattle.meaning.specs.declared.End.TheVariants.{Wanted, Budget, Work, Output}
-use Rattle.meaning.specs.declared.Outcome.{Outcome}
+use Rattle.meaning.specs.declared.End.TheVariants.{Wanted, Budget}
+use Rattle.meaning.specs.Outcome.{Outcome}
 use Rattle.laws.specs.IfLaws.{if_true, if_false}
 use Rattle.demands.specs.Proofs.{WellFormed}
 use Rattle.demands.specs.GoodFiles.{good_files_are_well_formed}
@@ -29,8 +29,7 @@ use Rattle.search.specs.declared.Regs.{Regs}
 use Rattle.search.specs.declared.Due.{Due}
 use Rattle.search.specs.declared.Due.TheVariants.{Over}
 use Rattle.answers.specs.Answering.{Answers, fit_of}
-use Rattle.answers.specs.declared.Wrote.{Wrote}
-use Rattle.answers.specs.declared.Wrote.TheVariants.{Bytes, Full, Crowded}
+use Rattle.std.specs.Prelude.{Result, Ok, Err}
 use Rattle.simulation.specs.Rep.{Setting, lay, Base, ChoicesAre, no_choices, choices}
 use Rattle.simulation.specs.PlaceLaws.{rules_stand}
 use Rattle.simulation.specs.TableFrames.{tables_room}
@@ -46,7 +45,7 @@ use Rattle.simulation.specs.Answering.{answer_of, answer_is, Answered, answers_a
 use Rattle.simulation.specs.Spending.{later, later_at, later_try, later_marks}
 use Rattle.simulation.specs.Starting.{start_comes}
 use Rattle.machine.specs.declared.run.Written.{Written}
-use Rattle.machine.specs.Running.{spent, behind_of, going_on, over_of, ended_of, WritesBehind, written_behind, Lists, no_output, last_wanted, goes_back, full, crowded, Moves, try_late, pair_late, cut_late, tries_one, pairs_one, cuts_one, lists, is_over, RunsFrom, stops as stops_here, onward, nothing_yet, Runs, runs}
+use Rattle.machine.specs.Running.{spent, behind_of, going_on, over_of, ended_of, WritesBehind, written_behind, Lists, no_output, last_wanted, goes_back, no_answer, Moves, try_late, pair_late, cut_late, tries_one, pairs_one, cuts_one, lists, is_over, RunsFrom, stops as stops_here, onward, nothing_yet, Runs, runs}
 
 module _ (X : Setting) (wanted : ℕ) (o₀ : List ℕ) (small : length o₀ < 2 ^ 63) (most : wanted < 2 ^ 32) where
   -- what has been written is what was done: the answers stand in the output, one after another
@@ -117,7 +116,7 @@ module _ (X : Setting) (wanted : ℕ) (o₀ : List ℕ) (small : length o₀ < 2
     a = answer_of X n
 
     -- the answer goes behind the bytes used
-    goes_behind : {r : Wrote} {v q : List ℕ} → WritesBehind X.file (given_of X) m t.bytes w o r v q → (p : List ℕ) × (q ≡ take t.bytes o ++ p) × Answered X w m n cs rest r v p
+    goes_behind : {r : Result ℕ End} {v q : List ℕ} → WritesBehind X.file (given_of X) m t.bytes w o r v q → (p : List ℕ) × (q ≡ take t.bytes o ++ p) × Answered X w m n cs rest r v p
     unfolding given_of
     goes_behind {r} {v} (written_behind {p = p} b) =
         let l = rest_long t d o i in (
@@ -128,14 +127,14 @@ module _ (X : Setting) (wanted : ℕ) (o₀ : List ℕ) (small : length o₀ < 2
         )
 
     -- it is the definition's
-    answering_is : {r : Wrote} {v p : List ℕ} → Answered X w m n cs rest r v p → answering R X.limits wanted room n cs d ≡ put_out R X.limits wanted room (fit_of r) a cs d
+    answering_is : {r : Result ℕ End} {v p : List ℕ} → Answered X w m n cs rest r v p → answering R X.limits wanted room n cs d ≡ put_out R X.limits wanted room (fit_of r) a cs d
     unfolding answering
     answering_is b =
         ap₂ (λ (k : ℕ) (x : Answer). put_out R X.limits wanted room (fitting k X.limits.work 0 (pieces x)) x cs d) (sym (rest_long t d o i)) (answer_is X wanted room n)
         ∙ ap (λ (f : Fit). put_out R X.limits wanted room f a cs d) (sym b.fit)
 
     -- one that does not fit leaves no byte
-    stopped : {v q : List ℕ} (e : End) (r : Wrote) → fit_of r ≡ stops (end_number e) → WritesBehind X.file (given_of X) m t.bytes w o r v q → going_on (Over e m) ≡ false → After t (Over e m) v q (answering R X.limits wanted room n cs d) d.units
+    stopped : {v q : List ℕ} (e : End) (r : Result ℕ End) → fit_of r ≡ stops (end_number e) → WritesBehind X.file (given_of X) m t.bytes w o r v q → going_on (Over e m) ≡ false → After t (Over e m) v q (answering R X.limits wanted room n cs d) d.units
     unfolding put_out
     stopped {v} e r f b g =
         let (p, z, x) = goes_behind b in
@@ -149,7 +148,7 @@ module _ (X : Setting) (wanted : ℕ) (o₀ : List ℕ) (small : length o₀ < 2
         }
 
     -- one that fits is listed
-    module _ {k : ℕ} {v p : List ℕ} (b : Answered X w m n cs rest (Bytes k) v p) where
+    module _ {k : ℕ} {v p : List ℕ} (b : Answered X w m n cs rest (Ok k) v p) where
       written_then : WrittenIs (behind_of t k) (list a d) (take t.bytes o ++ p)
       unfolding bytes fit_of
       written_then =
@@ -176,8 +175,7 @@ module _ (X : Setting) (wanted : ℕ) (o₀ : List ℕ) (small : length o₀ < 2
     lists_come : {e : Due} {s : Written} {v q : List ℕ} → Lists X.file (given_of X) wanted m t w o e s v q → After s e v q (answering R X.limits wanted room n cs d) d.units
     unfolding fit_of end_number going_on list given_of
     lists_come (no_output h) = let l = as_long t d o i in let b = i.bytes_long in let k = i.within in absurd (omega arith)
-    lists_come (full h b) = stopped Output Full refl b refl
-    lists_come (crowded h b) = stopped Work Crowded refl b refl
+    lists_come (no_answer {e = e} h b) = stopped e (Err e) refl b refl
     lists_come (last_wanted {n = k} {v = v} h b e) =
         let (p, z, x) = goes_behind b in
         record {

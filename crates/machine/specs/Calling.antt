@@ -1,18 +1,16 @@
 -- What the whole call does, for every input: what the definition says.
 -- Assumes nothing.
-use Rattle.std.specs.Prelude.{ℕ, ◌≤◌, ◌≡◌, Bool, true, List, length}
+use Rattle.std.specs.Prelude.{ℕ, ◌≤◌, ◌≡◌, Bool, true, List, length, Ok}
 use Rattle.meaning.specs.Kinds.{file_limit}
 use Rattle.meaning.specs.Editions.{todays}
 use Rattle.meaning.specs.Moves.{Limits as LimitsDefined}
 use Rattle.meaning.specs.Reading.{parse}
 use Rattle.meaning.specs.Call.{Result, result, run_read, in_range, needed, output_after, scratch_after}
-use Rattle.meaning.specs.Outcome.{says, to_say}
+use Rattle.meaning.specs.Outcome.{Outcome, says, to_say}
 use Rattle.meaning.specs.declared.Place.{Place}
-use Rattle.meaning.specs.declared.Outcome.{Outcome}
 use Rattle.search.specs.declared.Limits.{Limits}
 use Rattle.search.specs.declared.Given.{Given}
 use Rattle.reading.specs.declared.Counts.{Counts}
-use Rattle.reading.specs.declared.Checked.TheVariants.{Good}
 use Rattle.reading.specs.Verdict.{verdict}
 use Rattle.simulation.specs.Rep.{layout_of}
 
@@ -48,7 +46,7 @@ pub record Tested (file : List ℕ) (l : Limits) (w : List ℕ) : Type 0 where
 -- a good file can be run
 pub record Can (file : List ℕ) (l : Limits) (c : Counts) (w : List ℕ) : Type 0 where
   pub tested : Tested file l w
-  pub good : verdict (parse file) ≡ Good c
+  pub good : verdict (parse file) ≡ Ok c
 
 -- a good file is run: what the run says, and the output after it
 pub record RunsGood (file : List ℕ) (l : Limits) (budget wanted : ℕ) (o : List ℕ) (r : Outcome) (q : List ℕ) : Type 0 where

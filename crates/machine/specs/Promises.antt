@@ -3,7 +3,7 @@
 -- where a request of document 02 changed nothing for a file, it leaves what it left before; and where it is given no less and does not
 -- refuse, it writes what it wrote and goes on from there.
 -- Assumes nothing.
-use Rattle.std.specs.Prelude.{ℕ, ◌≤◌, ◌≡◌, List, [], ◌∷◌, ◌++◌, eqb, length, take, drop, replicate}
+use Rattle.std.specs.Prelude.{ℕ, ◌≤◌, ◌≡◌, List, [], ◌∷◌, ◌++◌, eqb, length, take, drop, replicate, Ok, Err}
 use Rattle.std.proofs.Math.Path.{refl, sym, ap, subst}
 use Rattle.std.proofs.Common.{ap₂, ◌∙◌}
 use Rattle.std.proofs.Math.Seq.{take-append_seam}
@@ -13,13 +13,13 @@ use Rattle.meaning.specs.Editions.{Edition, document_01, todays, within, keeping
 use Rattle.meaning.specs.Rules.{Goal, cut, Rules}
 use Rattle.meaning.specs.Answers.{Answer, output}
 use Rattle.meaning.specs.Call.{Result, refusal, end, result_by, needed, output_after, scratch_after}
-use Rattle.meaning.specs.Outcome.{end_number, Said, refused_as, ended_as, says, to_say}
+use Rattle.meaning.specs.Outcome.{Outcome, fault_number, fault_of, refused_with, ended_with, end_number, Said, refused_as, ended_as, says, to_say}
 use Rattle.meaning.specs.declared.Place.{Place}
 use Rattle.meaning.specs.declared.Totals.{Totals}
 use Rattle.meaning.specs.declared.End.{End}
 use Rattle.meaning.specs.declared.End.TheVariants.{NoMore, Wanted, Budget, Cells, Steps, Work, Output}
-use Rattle.meaning.specs.declared.Outcome.{Outcome}
-use Rattle.meaning.specs.declared.Outcome.TheVariants.{Refused, Ended}
+use Rattle.meaning.specs.declared.Fault.{Fault}
+use Rattle.meaning.specs.declared.Fault.TheVariants.{Limits as LimitsFault, Length, Scratch, Short, Kind, Number, Variable, Level, AfterEnd}
 use Rattle.demands.specs.Proofs.{NoCut, Uncut}
 use Rattle.demands.specs.Demands.{SaysWithin, Says, LeavesBy, Ends, Correct, Complete}
 use Rattle.demands.specs.Theorems.{third_demand, third_demand_with_cut}
@@ -53,15 +53,28 @@ end_back Steps = refl
 end_back Work = refl
 end_back Output = refl
 
+-- and the fault
+fault_back : (f : Fault) → fault_of (fault_number f) ≡ f
+unfolding fault_number
+fault_back LimitsFault = refl
+fault_back Length = refl
+fault_back Scratch = refl
+fault_back Short = refl
+fault_back Kind = refl
+fault_back Number = refl
+fault_back Variable = refl
+fault_back Level = refl
+fault_back AfterEnd = refl
+
 -- the outcome that says it
 outcome_of : Said → Outcome
-outcome_of (refused_as n p) = Refused n (record { 0 = p })
-outcome_of (ended_as e answers units bytes) = Ended (end_of e) (record { answers = answers; units = units; bytes = bytes })
+outcome_of (refused_as n p) = Err (record { fault = fault_of n; place = record { 0 = p } })
+outcome_of (ended_as e answers units bytes) = Ok (record { end = end_of e; totals = record { answers = answers; units = units; bytes = bytes } })
 
 outcome_back : (r : Outcome) → outcome_of (says r) ≡ r
 unfolding outcome_of says
-outcome_back (Refused n p) = refl
-outcome_back (Ended e t) = ap (λ (x : End). Ended x t) (end_back e)
+outcome_back (Err r) = ap (λ (x : Fault). Err (record { fault = x; place = r.place })) (fault_back r.fault)
+outcome_back (Ok e) = ap (λ (x : End). Ok (record { end = x; totals = e.totals })) (end_back e.end)
 
 module _ (file : List ℕ) (l : Limits) (budget wanted : ℕ) (w o : List ℕ) where
   -- one outcome, one content of scratch and of the output
@@ -88,10 +101,10 @@ module _ (file : List ℕ) (l : Limits) (budget wanted : ℕ) (w o : List ℕ) w
   kept (refusal n p) = (refl, refl)
   kept (end e n u b) = tt
 
-  pub called_refused : (n : ℕ) (p : Place) (v q : List ℕ) → Called file l budget wanted w o (Refused n p) v q → (v ≡ w) × (q ≡ o)
+  pub called_refused : (f : Fault) (p : Place) (v q : List ℕ) → Called file l budget wanted w o (refused_with f p) v q → (v ≡ w) × (q ≡ o)
   unfolding says
-  called_refused n p v q a =
-      let k : Kept (refused_as n p.0) words_then bytes_then = subst (λ (s : Said). Kept s words_then bytes_then) (sym a.outcome) (kept x) in
+  called_refused f p v q a =
+      let k : Kept (refused_as (fault_number f) p.0) words_then bytes_then = subst (λ (s : Said). Kept s words_then bytes_then) (sym a.outcome) (kept x) in
       (a.words ∙ k.0, a.bytes ∙ k.1)
 
   -- ---- an end: the needed words are zero, the bytes of the answers stand in the output, and nothing else is changed
@@ -112,7 +125,7 @@ module _ (file : List ℕ) (l : Limits) (budget wanted : ℕ) (w o : List ℕ) w
   came (refusal n p) g s = tt
   came (end e n u b) g s = record { written = b; gives = g; long = refl; within = s.2; scratch = refl; output_is = refl }
 
-  pub called_ended : (e : End) (t : Totals) (v q : List ℕ) → Called file l budget wanted w o (Ended e t) v q → Left t.answers t.units t.bytes (end_number e) v q
+  pub called_ended : (e : End) (t : Totals) (v q : List ℕ) → Called file l budget wanted w o (ended_with e t) v q → Left t.answers t.units t.bytes (end_number e) v q
   unfolding says
   called_ended e t v q a =
       rw (a.words, a.bytes) (subst (λ (s : Said). Came s words_then bytes_then) (sym a.outcome) (came x refl (result_small file (limits_of l) budget wanted (length w) (length o))))
@@ -138,7 +151,7 @@ module _ (file : List ℕ) (l : Limits) (budget wanted : ℕ) (w o : List ℕ) w
     called_settled good n = left_by _ (settled_result file R good n (limits_of l) budget wanted (length w) (length o)) r v q a
 
   -- ---- the third demand, for what the function wrote
-  module _ (R : Rules) (says_so : Says file R) (e : End) (t : Totals) (v q : List ℕ) (a : Called file l budget wanted w o (Ended e t) v q) where
+  module _ (R : Rules) (says_so : Says file R) (e : End) (t : Totals) (v q : List ℕ) (a : Called file l budget wanted w o (ended_with e t) v q) where
     -- the answers that stand in the output
     pub record Wrote (listed : List Answer) : Type 0 where
       pub answers : t.answers ≡ length listed
@@ -189,15 +202,15 @@ module _ (file : List ℕ) (l m : Limits) (budget budget' wanted wanted' : ℕ) 
     pub left_same : e ≡ 20 → result_of file l budget wanted w o ≡ result_of file m budget' wanted' w' o'
     left_same h = x.gives ∙ continued.no_more h ∙ sym y.gives
 
-  module _ (e e' : End) (t t' : Totals) (v v' q q' : List ℕ) (a : Called file l budget wanted w o (Ended e t) v q) (b : Called file m budget' wanted' w' o' (Ended e' t') v' q') where
+  module _ (e e' : End) (t t' : Totals) (v v' q q' : List ℕ) (a : Called file l budget wanted w o (ended_with e t) v q) (b : Called file m budget' wanted' w' o' (ended_with e' t') v' q') where
     -- what the first wrote is the beginning of what the second wrote
     pub called_continued : Continued (end_number e) t.answers t.units (take t.bytes q) (end_number e') t'.answers t'.units (take t'.bytes q')
     called_continued = left_continued (called_ended file l budget wanted w o e t v q a) (called_ended file m budget' wanted' w' o' e' t' v' q' b)
 
     -- and where the first came to no more, so did the second, with the same totals and the same bytes
-    pub called_no_more : e ≡ NoMore → (Ended e t ≡ Ended e' t') × (take t.bytes q ≡ take t'.bytes q')
+    pub called_no_more : e ≡ NoMore → (ended_with e t ≡ ended_with e' t') × (take t.bytes q ≡ take t'.bytes q')
     unfolding end_number
     called_no_more n =
         let same = left_same (called_ended file l budget wanted w o e t v q a) (called_ended file m budget' wanted' w' o' e' t' v' q' b) (ap end_number n) in
         let bytes = called_continued.no_more (ap end_number n) in
-        (sym (outcome_back (Ended e t)) ∙ ap outcome_of (a.outcome ∙ ap to_say same ∙ sym b.outcome) ∙ outcome_back (Ended e' t'), cc)
+        (sym (outcome_back (ended_with e t)) ∙ ap outcome_of (a.outcome ∙ ap to_say same ∙ sym b.outcome) ∙ outcome_back (ended_with e' t'), cc)

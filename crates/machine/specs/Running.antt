@@ -1,14 +1,14 @@
 -- What a run does, word for word: each move as the search defines it, each answer as the answers do.
 -- Assumes nothing.
-use Rattle.std.specs.Prelude.{ℕ, ◌+◌, ◌≤◌, ◌<◌, ◌≡◌, Bool, true, false, List, ◌++◌, length, take, drop}
+use Rattle.std.specs.Prelude.{ℕ, ◌+◌, ◌≤◌, ◌<◌, ◌≡◌, Bool, true, false, List, ◌++◌, length, take, drop, Result, Ok, Err}
 use Rattle.meaning.specs.Reading.{byte}
 use Rattle.meaning.specs.declared.End.{End}
 use Rattle.meaning.specs.declared.End.TheVariants.{Wanted, Budget, Work, Output}
-use Rattle.meaning.specs.declared.Outcome.{Outcome}
-use Rattle.meaning.specs.declared.Outcome.TheVariants.{Ended}
+use Rattle.meaning.specs.Outcome.{Outcome}
 use Rattle.words.specs.Words.{plus, ahead}
 use Rattle.cells.specs.declared.Layout.{Layout}
-use Rattle.matching.specs.declared.Came.TheVariants.{Matched, Differed, Crowded, Late}
+use Rattle.matching.specs.declared.Came.TheVariants.{Matched, Clashed, Late}
+use Rattle.matching.specs.declared.Clash.TheVariants.{Differ, Over as Overfull}
 use Rattle.matching.specs.declared.Matched.{Matched as MatchedPairs}
 use Rattle.search.specs.Search.{Backs, GoesOn, TriesHead, MovesPair, MovesCut, Starts}
 use Rattle.search.specs.declared.Given.{Given}
@@ -17,8 +17,6 @@ use Rattle.search.specs.declared.Trial.{Trial}
 use Rattle.search.specs.declared.Due.{Due}
 use Rattle.search.specs.declared.Due.TheVariants.{Try, Pair, Cut, Answer, Over}
 use Rattle.answers.specs.Answering.{Answers}
-use Rattle.answers.specs.declared.Wrote.{Wrote}
-use Rattle.answers.specs.declared.Wrote.TheVariants.{Bytes, Full, Crowded}
 use Rattle.machine.specs.declared.run.Written.{Written}
 
 unfoldable pub spent : Regs → Regs
@@ -35,7 +33,7 @@ going_on (Cut m) = true
 going_on (Answer m) = true
 
 unfoldable pub over_of : End → Regs → Written → Outcome
-over_of e m t = Ended e (record { answers = t.answers; units = m.units; bytes = t.bytes })
+over_of e m t = Ok (record { end = e; totals = record { answers = t.answers; units = m.units; bytes = t.bytes } })
 
 unfoldable pub ended_of : Due → Written → Outcome
 ended_of (Over e m) t = over_of e m t
@@ -45,19 +43,18 @@ ended_of (Cut m) t = over_of Budget m t
 ended_of (Answer m) t = over_of Budget m t
 
 -- an answer is written into the output behind the bytes used
-pub data WritesBehind (file : List ℕ) (g : Given) (m : Regs) (used : ℕ) (w o : List ℕ) : Wrote → List ℕ → List ℕ → Type 0 where
-  written_behind : {r : Wrote} {v p : List ℕ} → Answers file g.lay g.limits.work (byte file (g.query.0 + 1)) m.cells m.steps m.trail w (drop used o) r v p
+pub data WritesBehind (file : List ℕ) (g : Given) (m : Regs) (used : ℕ) (w o : List ℕ) : Result ℕ End → List ℕ → List ℕ → Type 0 where
+  written_behind : {r : Result ℕ End} {v p : List ℕ} → Answers file g.lay g.limits.work (byte file (g.query.0 + 1)) m.cells m.steps m.trail w (drop used o) r v p
       → WritesBehind file g m used w o r v (take used o ++ p)
 
 -- an answer that is due: it is written, or it stops the run
 pub data Lists (file : List ℕ) (g : Given) (wanted : ℕ) (m : Regs) (t : Written) (w o : List ℕ) : Due → Written → List ℕ → List ℕ → Type 0 where
   no_output : length o < t.bytes → Lists file g wanted m t w o (Over Output m) t w o
-  last_wanted : {n : ℕ} {v p : List ℕ} → t.bytes ≤ length o → WritesBehind file g m t.bytes w o (Bytes n) v p → (behind_of t n).answers ≡ wanted
+  last_wanted : {n : ℕ} {v p : List ℕ} → t.bytes ≤ length o → WritesBehind file g m t.bytes w o (Ok n) v p → (behind_of t n).answers ≡ wanted
       → Lists file g wanted m t w o (Over Wanted m) (behind_of t n) v p
-  goes_back : {n : ℕ} {d : Due} {v p u : List ℕ} → t.bytes ≤ length o → WritesBehind file g m t.bytes w o (Bytes n) v p → ((behind_of t n).answers ≡ wanted → ⊥)
+  goes_back : {n : ℕ} {d : Due} {v p u : List ℕ} → t.bytes ≤ length o → WritesBehind file g m t.bytes w o (Ok n) v p → ((behind_of t n).answers ≡ wanted → ⊥)
       → Backs g.lay m m.trail m.choice v d u → Lists file g wanted m t w o d (behind_of t n) u p
-  full : {v p : List ℕ} → t.bytes ≤ length o → WritesBehind file g m t.bytes w o Full v p → Lists file g wanted m t w o (Over Output m) t v p
-  crowded : {v p : List ℕ} → t.bytes ≤ length o → WritesBehind file g m t.bytes w o Crowded v p → Lists file g wanted m t w o (Over Work m) t v p
+  no_answer : {e : End} {v p : List ℕ} → t.bytes ≤ length o → WritesBehind file g m t.bytes w o (Err e) v p → Lists file g wanted m t w o (Over e m) t v p
 
 -- what is due is done: a move where a unit is left for it, or an answer
 pub data Moves (file : List ℕ) (g : Given) (budget wanted : ℕ) : Due → Written → List ℕ → List ℕ → Due → Written → List ℕ → List ℕ → Type 0 where
@@ -72,13 +69,13 @@ pub data Moves (file : List ℕ) (g : Given) (budget wanted : ℕ) : Due → Wri
 
 -- where a run is once the pairs of a head came out so
 abbrev pub matched_regs : Regs → MatchedPairs → Regs
-matched_regs m r = record { cells = m.cells; trail = r.trail; steps = m.steps; choice = m.choice; work = r.work; fresh = r.fresh; next = m.next; units = r.units }
+matched_regs m r = record { cells = m.cells; trail = r.pairs.trail; steps = m.steps; choice = m.choice; work = r.pairs.work; fresh = r.pairs.fresh; next = m.next; units = r.units }
 
 -- what comes of that
 pub data Leads (file : List ℕ) (lay : Layout) (m : Regs) (r : MatchedPairs) (w : List ℕ) : Due → List ℕ → Type 0 where
   leads_on : {d : Due} {v : List ℕ} → r.came ≡ Matched → GoesOn file lay (matched_regs m r) w d v → Leads file lay m r w d v
-  leads_back : {d : Due} {v : List ℕ} → r.came ≡ Differed → Backs lay (matched_regs m r) r.trail m.choice w d v → Leads file lay m r w d v
-  leads_over : r.came ≡ Crowded → Leads file lay m r w (Over Work (matched_regs m r)) w
+  leads_back : {d : Due} {v : List ℕ} → r.came ≡ Clashed Differ → Backs lay (matched_regs m r) r.pairs.trail m.choice w d v → Leads file lay m r w d v
+  leads_over : r.came ≡ Clashed Overfull → Leads file lay m r w (Over Work (matched_regs m r)) w
   leads_late : r.came ≡ Late → Leads file lay m r w (Over Budget (matched_regs m r)) w
 
 -- something else than a pair is due
@@ -115,6 +112,11 @@ pub data TriesHeads (file : List ℕ) (g : Given) (budget : ℕ) : Regs → Tria
 pub data Turns (file : List ℕ) (g : Given) (budget wanted : ℕ) : Due → Written → List ℕ → List ℕ → Due → Written → List ℕ → List ℕ → Type 0 where
   one : {d n : Due} {t s : Written} {w o v p : List ℕ} → NoPair n → Moves file g budget wanted d t w o n s v p → Turns file g budget wanted d t w o n s v p
   heads : {x : Trial} {m : Regs} {d : Due} {t : Written} {w o v : List ℕ} → TriesHeads file g budget m x w d v → Turns file g budget wanted (Try m x) t w o d t v o
+
+-- a cut, where a unit is left for it
+pub data Cuts (file : List ℕ) (g : Given) (budget : ℕ) (m : Regs) (w : List ℕ) : Due → List ℕ → Type 0 where
+  no_unit : budget ≤ m.units → Cuts file g budget m w (Over Budget m) w
+  a_unit : {d : Due} {v : List ℕ} → m.units < budget → MovesCut file g.lay (spent m) w d v → Cuts file g budget m w d v
 
 -- from what is due to the end
 pub data RunsFrom (file : List ℕ) (g : Given) (budget wanted : ℕ) : Due → Written → List ℕ → List ℕ → Outcome → List ℕ → List ℕ → Type 0 where

@@ -4,40 +4,27 @@
 mod heads;
 mod run;
 
-ghost use Rattle.std.specs.Prelude.{◌≡◌, ◌≤◌, length, replicate};
+ghost use Rattle.std.specs.Prelude.{◌≡◌, ◌≤◌, ◌&&◌, leb, length, replicate};
 ghost use Rattle.meaning.specs.Call.{needed};
 ghost use Rattle.machine.specs.Calling.{allowed, given_of, limits_of, Tested, Can, RunsGood, Called};
 
 use cells::Layout;
-use meaning::{Outcome, Place};
-use reading::{Checked, Counts, check};
-use run::run;
+use meaning::{Fault, Outcome, Place};
+use reading::{Counts, check};
+use records::FILE_LIMIT;
+use run::Run;
 use search::{Given, Limits};
 use tables::lay;
 
-// The longest file.
-const FILE: usize = 60000;
+// The most cells, steps and work that a run may have.
+const MOST: u32 = 60000;
 
 // Run limits: cells and steps 1 to 60,000; work 8 to 60,000.
+#[tactic(auto, unfolding(meaning::specs::Call::in_range))]
 fn in_limits(l: Limits) -> bool
     ensures { result ≡ allowed l }
 {
-    if l.cells < 1 {
-        return false;
-    }
-    if 60000 < l.cells {
-        return false;
-    }
-    if l.steps < 1 {
-        return false;
-    }
-    if 60000 < l.steps {
-        return false;
-    }
-    if l.work < 8 {
-        return false;
-    }
-    l.work <= 60000
+    (1..=MOST).contains(&l.cells) && (1..=MOST).contains(&l.steps) && (8..=MOST).contains(&l.work)
 }
 
 // The words of scratch that a run needs.
@@ -77,84 +64,66 @@ fn given(length: u32, l: Limits, functions: u32, predicates: u32, query: Place) 
     }
 }
 
-// All words become zero.
-fn wipe(w: &mut [u32])
-    ensures { w.new ≡ replicate (length w.old) 0 }
-{
-    for i in 0..w.len() {
-        w[i] = 0;
+// What is asked: a file, the limits of its run, the budget, and how many answers are wanted.
+#[derive(Clone, Copy)]
+struct Asked<'a> {
+    file: &'a [u8],
+    limits: Limits,
+    budget: u32,
+    wanted: u32,
+}
+
+impl<'a> Asked<'a> {
+    // The tables of a good file are laid out, and it is run.
+    fn run_laid(self, c: Counts, w: &mut [u32], out: &mut [u8]) -> Outcome
+        requires { Can self.file.now self.limits c w.old }
+        ensures { RunsGood self.entry.file.now self.entry.limits self.entry.budget self.entry.wanted out.old result out.new }
+    {
+        let query = lay(self.file, w, c.functions, c.predicates, c.clauses);
+        let g = given(
+            self.file.len() as u32,
+            self.limits,
+            c.functions,
+            c.predicates,
+            query,
+        );
+        let run = Run {
+            file: self.file,
+            given: g,
+            budget: self.budget,
+            wanted: self.wanted,
+        };
+        run.whole(w, out)
     }
-}
 
-// The tables of a good file are laid out, and it is run.
-fn run_laid(
-    file: &[u8],
-    l: Limits,
-    budget: u32,
-    wanted: u32,
-    c: Counts,
-    w: &mut [u32],
-    out: &mut [u8],
-) -> Outcome
-    requires { Can file.now l c w.old }
-    ensures { RunsGood file.now l budget wanted out.old result out.new }
-{
-    let query = lay(file, w, c.functions, c.predicates, c.clauses);
-    let g = given(file.len() as u32, l, c.functions, c.predicates, query);
-    run(file, w, out, g, budget, wanted)
-}
+    // A good file is run in the words that are lent, which are zero then.
+    fn run_in(self, c: Counts, w: &mut [u32], out: &mut [u8]) -> Outcome
+        requires { Can self.file.now self.limits c w.old }
+        ensures runs { RunsGood self.entry.file.now self.entry.limits self.entry.budget self.entry.wanted out.old result out.new }
+        ensures wipes { w.new ≡ replicate (length w.old) 0 }
+    {
+        let r = self.run_laid(c, w, out);
+        w.fill(0);
+        r
+    }
 
-// A good file is run in the words that are lent, which are zero then.
-fn run_in(
-    file: &[u8],
-    l: Limits,
-    budget: u32,
-    wanted: u32,
-    c: Counts,
-    w: &mut [u32],
-    out: &mut [u8],
-) -> Outcome
-    requires { Can file.now l c w.old }
-    ensures runs { RunsGood file.now l budget wanted out.old result out.new }
-    ensures wipes { w.new ≡ replicate (length w.old) 0 }
-{
-    let r = run_laid(file, l, budget, wanted, c, w, out);
-    wipe(w);
-    r
-}
+    // A good file is run in the words that it needs; the rest of scratch stays.
+    fn run_read(self, c: Counts, w: &mut [u32], out: &mut [u8]) -> Outcome
+        requires { Can self.file.now self.limits c w.old }
+        ensures { Called self.entry.file.now self.entry.limits self.entry.budget self.entry.wanted w.old out.old result w.new out.new }
+    {
+        let count = words_needed(self.file.len(), self.limits);
+        self.run_in(c, &mut w[..count], out)
+    }
 
-// A good file is run in the words that it needs; the rest of scratch stays.
-fn run_read(
-    file: &[u8],
-    l: Limits,
-    budget: u32,
-    wanted: u32,
-    c: Counts,
-    w: &mut [u32],
-    out: &mut [u8],
-) -> Outcome
-    requires { Can file.now l c w.old }
-    ensures { Called file.now l budget wanted w.old out.old result w.new out.new }
-{
-    let count = words_needed(file.len(), l);
-    run_in(file, l, budget, wanted, c, &mut w[..count], out)
-}
-
-// The file is read forward; a good one is run.
-fn read_on(
-    file: &[u8],
-    l: Limits,
-    budget: u32,
-    wanted: u32,
-    w: &mut [u32],
-    out: &mut [u8],
-) -> Outcome
-    requires { Tested file.now l w.old }
-    ensures { Called file.now l budget wanted w.old out.old result w.new out.new }
-{
-    match check(file) {
-        Checked::Refused(n, p) => Outcome::Refused(n, p),
-        Checked::Good(c) => run_read(file, l, budget, wanted, c, w, out),
+    // The file is read forward; a good one is run.
+    #[tactic(auto, using(crate::proofs::CallLaws::read_refuses))]
+    fn read_on(self, w: &mut [u32], out: &mut [u8]) -> Outcome
+        requires { Tested self.file.now self.limits w.old }
+        ensures { Called self.entry.file.now self.entry.limits self.entry.budget self.entry.wanted w.old out.old result w.new out.new }
+    {
+        let c = check(self.file)?;
+        self.run_read(c, w, out)
     }
 }
 
@@ -170,13 +139,19 @@ pub fn call(
     ensures { Called file.now l budget wanted w.old out.old result w.new out.new }
 {
     if !in_limits(l) {
-        return Outcome::Refused(1, Place(0));
+        return Err(Fault::Limits.at(0));
     }
-    if FILE < file.len() {
-        return Outcome::Refused(2, Place(0));
+    if FILE_LIMIT < file.len() {
+        return Err(Fault::Length.at(0));
     }
     if w.len() < words_needed(file.len(), l) {
-        return Outcome::Refused(3, Place(0));
+        return Err(Fault::Scratch.at(0));
     }
-    read_on(file, l, budget, wanted, w, out)
+    let asked = Asked {
+        file,
+        limits: l,
+        budget,
+        wanted,
+    };
+    asked.read_on(w, out)
 }

@@ -1,4 +1,4 @@
-use Rattle.machine.proofs.run_read.Goals as goal
+use Rattle.machine.proofs.Asked.run_read.Goals as goal
 use Rattle.machine.proofs.CallLaws.{part_run}
 
 -- src/lib.rt:127:1

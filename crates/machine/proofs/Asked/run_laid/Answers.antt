@@ -1,4 +1,4 @@
-use Rattle.machine.proofs.run_laid.Goals as goal
+use Rattle.machine.proofs.Asked.run_laid.Goals as goal
 use Rattle.machine.proofs.CallLaws.{can_lay, few_cells, few_predicates, few_steps, run_is_good}
 
 -- src/lib.rt:102:9

@@ -1,4 +1,4 @@
-use Rattle.machine.proofs.run.write_behind.Goals as goal
+use Rattle.machine.proofs.run.Run.write_behind.Goals as goal
 use Rattle.machine.proofs.Laws.{writes_behind}
 
 -- src/run.rt:36:1

@@ -1,4 +1,4 @@
-use Rattle.machine.proofs.heads.match_head.Goals as goal
+use Rattle.machine.proofs.run.Run.match_head.Goals as goal
 use Rattle.machine.proofs.HeadLaws.{head_leads, head_whole}
 
 -- src/heads.rt:48:9
