@@ -5,85 +5,47 @@ use mathlib.Core.Path.{◌≡◌, refl, sym, ap, ap₂, ◌∙◌}
 use mathlib.Core.List.{List, ◌++◌, append_assoc}
 use native.Mathlib.Omega.{arith}
 use native.Mathlib.Nat.{mod-eq_of_lt, min-eq_left, min-eq_right}
-use lib.ListN.{length, set, take, drop, replicate, length-replicate, take-append-drop}
-use lib.Seq.{set_out, length-take-le, drop-append-le}
+use lib.ListN.{length, take, drop, replicate, length-replicate, take-append-drop}
+use lib.Seq.{length-take-le, drop-append-le}
 use borrow.Author.Tests.{lt-ltb, le-ltb}
 use Rattle.laws.specs.IfLaws.{if_true, if_false}
 use Rattle.meaning.specs.Editions.{todays}
 use Rattle.meaning.specs.Moves.{Limits as LimitsDefined}
 use Rattle.meaning.specs.Call.{Result, refusal, end, result, output_after}
 use Rattle.meaning.specs.Embedded.{embedded_in, embedded_by, embedded, embedded_limits, embedded_scratch, room_limit, packed}
-use Rattle.meaning.specs.Outcome.{Said, says, to_say, end_number}
-use Rattle.meaning.specs.declared.Place.{Place}
-use Rattle.meaning.specs.declared.Totals.{Totals}
-use Rattle.meaning.specs.declared.End.{End}
-use Rattle.meaning.specs.declared.End.TheVariants.{NoMore, Wanted, Budget, Cells, Steps, Work, Output}
-use Rattle.meaning.specs.declared.Outcome.{Outcome}
-use Rattle.meaning.specs.declared.Outcome.TheVariants.{Refused, Ended}
+use Rattle.meaning.specs.Outcome.{Outcome, Said, says, to_say, fault_number, end_number}
+use Rattle.std.specs.Prelude.{Ok, Err}
+use Rattle.meaning.specs.declared.Ended.{Ended}
+use Rattle.meaning.specs.declared.Refusal.{Refusal}
+use Rattle.meaning.specs.declared.Fault.TheVariants.{Length}
+use Rattle.words.specs.Words.{put_four, ahead}
 use Rattle.search.specs.declared.Limits.{Limits}
 use Rattle.machine.specs.Calling.{Called, limits_of, result_of}
 use Rattle.embedded.specs.Promises.{Tight, embedded_tight}
 use Rattle.embedded.specs.Checking.{halves_of}
 use Rattle.embedded.specs.Telling.{told_four, told_all, told, CallTells, packed_said, packed_of, EmbedRuns, EmbedTells}
 
--- ---- the numbers of the ends
-module _ (e : End) where
-  pub is_20 : e ≡ NoMore → 20 ≡ end_number e
-  unfolding end_number
-  is_20 q = rw q refl
-
-  pub is_21 : e ≡ Wanted → 21 ≡ end_number e
-  unfolding end_number
-  is_21 q = rw q refl
-
-  pub is_22 : e ≡ Budget → 22 ≡ end_number e
-  unfolding end_number
-  is_22 q = rw q refl
-
-  pub is_23 : e ≡ Cells → 23 ≡ end_number e
-  unfolding end_number
-  is_23 q = rw q refl
-
-  pub is_24 : e ≡ Steps → 24 ≡ end_number e
-  unfolding end_number
-  is_24 q = rw q refl
-
-  pub is_25 : e ≡ Work → 25 ≡ end_number e
-  unfolding end_number
-  is_25 q = rw q refl
-
-  pub is_26 : e ≡ Output → 26 ≡ end_number e
-  unfolding end_number
-  is_26 q = rw q refl
-
 -- ---- the words
-pub put_past : (l : List ℕ) (i v : ℕ) → length l ≤ i → l ≡ set l i v
-put_past l i v h = sym (set_out l i v h)
-
-pub four_put : (at a b c d : ℕ) (l l₀ l₁ l₂ l₃ : List ℕ) → l₀ ≡ set l at a → l₁ ≡ set l₀ (at + 1) b → l₂ ≡ set l₁ (at + 2) c → l₃ ≡ set l₂ (at + 3) d → l₃ ≡ told_four at a b c d l
-unfolding told_four
-four_put at a b c d l l₀ l₁ l₂ l₃ e₀ e₁ e₂ e₃ = rw (e₃, e₂, e₁, e₀) refl
-
-pub all_put : (n p a u b : ℕ) (l l₀ l₁ l₂ : List ℕ) → l₀ ≡ told_four 0 n p a u l → l₁ ≡ told_four 4 b 0 0 0 l₀ → l₂ ≡ told_four 8 0 0 0 0 l₁ → l₂ ≡ told_all n p a u b l
-unfolding told_all
+pub all_put : (n p a u b : ℕ) (l l₀ l₁ l₂ : List ℕ) → l₀ ≡ put_four l 0 n p a u → l₁ ≡ put_four l₀ 4 b 0 0 0 → l₂ ≡ put_four l₁ 8 0 0 0 0 → l₂ ≡ told_all n p a u b l
+unfolding told_all told_four put_four ahead
 all_put n p a u b l l₀ l₁ l₂ e₀ e₁ e₂ = rw (e₂, e₁, e₀) refl
 
 module _ (r : Outcome) where
-  pub refused_told : (n : ℕ) (p : Place) (l v : List ℕ) → r ≡ Refused n p → v ≡ told_all n p.0 0 0 0 l → v ≡ told (says r) l
+  pub refused_told : (x : Refusal) (k : ℕ) (l v : List ℕ) → r ≡ Err x → k ≡ fault_number x.fault → v ≡ told_all k x.place.0 0 0 0 l → v ≡ told (says r) l
   unfolding told says
-  refused_told n p l v q h = rw q h
+  refused_told x k l v q f h = rw (q, ← f) h
 
-  pub ended_told : (e : End) (t : Totals) (k : ℕ) (l v : List ℕ) → r ≡ Ended e t → k ≡ end_number e → v ≡ told_all k 0 t.answers t.units t.bytes l → v ≡ told (says r) l
+  pub ended_told : (e : Ended) (k : ℕ) (l v : List ℕ) → r ≡ Ok e → k ≡ end_number e.end → v ≡ told_all k 0 e.totals.answers e.totals.units e.totals.bytes l → v ≡ told (says r) l
   unfolding told says
-  ended_told e t k l v q f h = rw (q, ← f) h
+  ended_told e k l v q f h = rw (q, ← f) h
 
-  pub refused_packed : (n m : ℕ) (p : Place) → r ≡ Refused n p → m ≡ halves_of n p.0 → m ≡ packed_of r
+  pub refused_packed : (x : Refusal) (m : ℕ) → r ≡ Err x → m ≡ halves_of (fault_number x.fault) x.place.0 → m ≡ packed_of r
   unfolding packed_of packed_said says
-  refused_packed n m p q h = rw q h
+  refused_packed x m q h = rw q h
 
-  pub ended_packed : (e : End) (t : Totals) (k m : ℕ) → r ≡ Ended e t → k ≡ end_number e → m ≡ halves_of k t.bytes → m ≡ packed_of r
+  pub ended_packed : (e : Ended) (k m : ℕ) → r ≡ Ok e → k ≡ end_number e.end → m ≡ halves_of k e.totals.bytes → m ≡ packed_of r
   unfolding packed_of packed_said says
-  ended_packed e t k m q f h = rw (q, ← f) h
+  ended_packed e k m q f h = rw (q, ← f) h
 
 -- ---- the calls
 pub call_tells : (file : List ℕ) (l : Limits) (budget wanted : ℕ) (w o result : List ℕ) (r : Outcome) (v p n : List ℕ) → Called file l budget wanted w o r v p → n ≡ told (says r) result → CallTells file l budget wanted w o result v p n
@@ -97,11 +59,11 @@ unfolding own_limits embedded_limits
 limits_are = refl
 
 module _ (file : List ℕ) (budget wanted : ℕ) (o : List ℕ) where
-  pub embed_long : 4_000 < length file → EmbedRuns file budget wanted o (Refused 2 (record { 0 = 0 })) o
-  unfolding embedded_in says to_say output_after
-  embed_long h =
+  pub embed_long : (r : Refusal) → r.fault ≡ Length → r.place.0 ≡ 0 → 4_000 < length file → EmbedRuns file budget wanted o (Err r) o
+  unfolding embedded_in says to_say output_after fault_number
+  embed_long r f p h =
       let e : embedded_in todays file budget wanted (length o) ≡ refusal 2 0 = if_true _ _ _ (lt-ltb 4_000 (length file) h) in
-      record { outcome = ap to_say (sym e); output = ap (λ (x : Result). output_after x o) (sym e) }
+      record { outcome = rw (f, p) (ap to_say (sym e)); output = ap (λ (x : Result). output_after x o) (sym e) }
 
   pub embed_runs : (r : Outcome) (v p : List ℕ) → length file ≤ 4_000 → Called file (record { cells = 1_000; steps = 400; work = 200 }) budget wanted (replicate embedded_scratch 0) o r v p → EmbedRuns file budget wanted o r p
   unfolding embedded_in own_limits

@@ -26,7 +26,6 @@ use Rattle.demands.proofs.MoreRoomLaws.{more_room_embedded, refused_alike}
 use Rattle.demands.specs.Theorems.{not_refused, third_demand, third_demand_with_cut}
 use Rattle.demands.specs.LargerLaws.{accepted_before, same_result as larger_result, same_embedded as larger_embedded}
 use Rattle.demands.specs.QueryCutLaws.{same_result as cut_result, same_embedded as cut_embedded, settled_result, settled_embedded, at_most_one}
-use Rattle.reading.specs.Verdict.{verdict}
 use Rattle.machine.specs.Calling.{limits_of, result_of}
 use Rattle.machine.specs.Promises.{Left, came, given_by, taken, left_continued, left_same}
 use Rattle.search.specs.declared.Limits.{Limits}
@@ -75,8 +74,8 @@ module _ (file : List ℕ) (budget wanted : ℕ) (o : List ℕ) (n : ℕ) (p : L
     pub run_settled : SaysWithin earlier_limits file R → NoCut R.query → RunBy document_01
     run_settled good n = run_by _ (settled_embedded file R good n budget wanted (length o))
 
-pub check_before : (file : List ℕ) (R : Rules) → SaysWithin earlier_limits file R → checked_number (verdict (parse file)) ≡ 0
-unfolding checked_number verdict
+pub check_before : (file : List ℕ) (R : Rules) → SaysWithin earlier_limits file R → checked_number (parse file) ≡ 0
+unfolding checked_number
 check_before file R good = let (s, e, q) = accepted_before file R good in rw q refl
 
 -- ---- the numbers of a result: those of document 01's tables, and what fits the lower half

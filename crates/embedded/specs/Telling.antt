@@ -5,7 +5,7 @@ use Rattle.meaning.specs.Editions.{todays}
 use Rattle.meaning.specs.Call.{needed, output_after, scratch_after}
 use Rattle.meaning.specs.Embedded.{embedded_in, embedded, packed}
 use Rattle.meaning.specs.Outcome.{Said, refused_as, ended_as, says, to_say}
-use Rattle.meaning.specs.declared.Outcome.{Outcome}
+use Rattle.meaning.specs.Outcome.{Outcome}
 use Rattle.search.specs.declared.Limits.{Limits}
 use Rattle.machine.specs.Calling.{limits_of, result_of}
 use Rattle.embedded.specs.Checking.{halves_of}

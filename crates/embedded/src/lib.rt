@@ -1,19 +1,20 @@
 // What a C program calls, thin: crates/embedded_c exports these functions.
+// Kept twice, and with as many parameters: the C interface needs it, and a crate is a library for others or one for C.
 #![tactic(auto)]
 
 mod told;
 
 ghost use Rattle.std.specs.Prelude.{◌≡◌};
 ghost use Rattle.meaning.specs.Reading.{parse};
-ghost use Rattle.reading.specs.Verdict.{verdict};
+ghost use Rattle.meaning.specs.Outcome.{fault_number};
 ghost use Rattle.embedded.specs.Checking.{halves_of, checked_number};
 ghost use Rattle.embedded.specs.Telling.{packed_of, CallTells, EmbedRuns, EmbedTells};
 
 use machine::call;
-use meaning::{Outcome, Place};
-use reading::{Checked, check};
+use meaning::{Fault, Outcome, Refusal};
+use reading::check;
 use search::Limits;
-use told::{end_number, tell};
+use told::tell;
 
 // Two numbers in the halves of one, the lower by its remainder.
 fn halves(high: u32, low: u64) -> u64
@@ -22,22 +23,23 @@ fn halves(high: u32, low: u64) -> u64
     (high as u64) * 4294967296 + low % 4294967296
 }
 
-// A verdict as one number: 0 where the file is good; else the refusal in the upper half, the place in the lower.
+// A refusal as one number: its own in the upper half, the place in the lower.
 // A place of a file in use is at most 60,000, so its remainder by 2^32 is the place itself.
-fn number(c: Checked) -> u64
-    ensures { result ≡ checked_number c }
+fn refused(r: Refusal) -> u64
+    ensures { result ≡ halves_of (fault_number r.fault) r.place.0 }
 {
-    match c {
-        Checked::Refused(n, p) => halves(n, p.0 as u64),
-        Checked::Good(_) => 0,
-    }
+    halves(u32::from(r.fault), r.place.0 as u64)
 }
 
-// Any bytes are checked as a rule file.
+// Any bytes are checked as a rule file: 0 where it is good, else the refusal.
+#[tactic(auto, using(crate::proofs::Laws::check_refused, crate::proofs::Laws::check_good))]
 pub fn pegplanet_check(file: &[u8]) -> u64
-    ensures { result ≡ checked_number (verdict (parse file.now)) }
+    ensures { result ≡ checked_number (parse file.now) }
 {
-    number(check(file))
+    match check(file) {
+        Err(r) => refused(r),
+        Ok(_) => 0,
+    }
 }
 
 // The whole call. The words of its result: end or refusal, place, answers, units, bytes, then zeros; as many as there is room for.
@@ -66,12 +68,13 @@ pub fn pegplanet_call(
 }
 
 // The outcome as one number: end or refusal in the upper half; in the lower the bytes written after an end, the place after a refusal.
+#[tactic(auto, using(crate::proofs::CallLaws::refused_packed, crate::proofs::CallLaws::ended_packed))]
 fn pack(r: Outcome) -> u64
     ensures { result ≡ packed_of r }
 {
     match r {
-        Outcome::Refused(n, p) => halves(n, p.0 as u64),
-        Outcome::Ended(e, t) => halves(end_number(e), t.bytes as u64),
+        Err(r) => refused(r),
+        Ok(e) => halves(u32::from(e.end), e.totals.bytes as u64),
     }
 }
 
@@ -81,7 +84,7 @@ fn embedded(file: &[u8], budget: u32, wanted: u32, out: &mut [u8]) -> Outcome
 {
     let too_long = 4000 < file.len();
     if too_long {
-        return Outcome::Refused(2, Place(0));
+        return Err(Fault::Length.at(0));
     }
     let mut scratch = [0u32; 16064];
     call(

@@ -1,16 +1,16 @@
 // What a C program calls: the functions of `embedded`, exported. Each calls the function of its name there and says the same of it.
+// Kept twice, and with as many parameters: the C interface needs it, and a crate is a library for others or one for C.
 #![tactic(auto)]
 
 ghost use Rattle.std.specs.Prelude.{◌≡◌};
 ghost use Rattle.meaning.specs.Reading.{parse};
-ghost use Rattle.reading.specs.Verdict.{verdict};
 ghost use Rattle.embedded.specs.Checking.{checked_number};
 ghost use Rattle.embedded.specs.Telling.{CallTells, EmbedTells};
 
 // Any bytes are checked as a rule file.
 #[unsafe(no_mangle)]
 pub extern "C" fn pegplanet_check(file: &[u8]) -> u64
-    ensures { result ≡ checked_number (verdict (parse file.now)) }
+    ensures { result ≡ checked_number (parse file.now) }
 {
     embedded::pegplanet_check(file)
 }
