@@ -30,8 +30,8 @@ pushed_more n work lay g h w v e = let s : n + 1 ≡ suc n = omega arith in rw (
 
 -- ---- a free variable of the goal side takes a function applied, and mentions all cells then
 pub goal_takes : {file : List ℕ} {lay : Layout} {limit stamp cells : ℕ} {at : Pairs} {x : CellNumber} {e f : ℕ} {s t : Held} {g h : Found} {w v : List ℕ} {r : Result Pairs Clash}
-    → f ≡ cells → g ≡ Unbound x s → h ≡ Function e t → BindChecked file lay stamp at.trail at.work f x t w r v → Compares file lay limit stamp cells at.trail at.work at.fresh g h w r v
-goal_takes z a b k = goal_free a b (rw z at k)
+    → g ≡ Unbound x s → h ≡ Function e t → BindChecked file lay stamp at.trail at.work f x t w r v → f ≡ cells → Compares file lay limit stamp cells at.trail at.work at.fresh g h w r v
+goal_takes a b k z = goal_free a b (rw z at k)
 
 -- ---- a free variable of the head side: it stands against itself, against another, or takes a function applied that it needs no check for
 module _ {file : List ℕ} {lay : Layout} {limit stamp cells : ℕ} {at : Pairs} {y : CellNumber} {s t : Held} {g h : Found} {w : List ℕ} where

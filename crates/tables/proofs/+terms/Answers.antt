@@ -1,4 +1,4 @@
-use Rattle.std.proofs.Common.{rules, arith, ◌<◌}
+use Rattle.std.proofs.Common.{rules, arith, ◌<◌, ◌≡◌, get_or}
 use Rattle.tables.proofs.+terms.Goals as goal
 use Rattle.tables.proofs.Walks.{arguments_end, arguments_terms, term_application, term_arguments, term_deep, term_variable, terms_again, terms_can, terms_end}
 
@@ -9,7 +9,9 @@ pub lay_arguments-returns : goal.lay_arguments-returns
 lay_arguments-returns t c = search arguments_end
 
 pub lay_term-returns-then-file-p : goal.lay_term-returns-then-file-p
-lay_term-returns-then-file-p t c = search (term_variable, rules)
+lay_term-returns-then-file-p t c =
+    let k : get_or c.args.file.now c.args.p 0 ≡ 4 = search rules in
+    term_variable c.args.file.now c.args.w.now c.args.p c.args.levels c.requires _ (omega arith) k
 
 pub lay_term-overflow_sub-levels : goal.lay_term-overflow_sub-levels
 lay_term-overflow_sub-levels t c = search term_deep
