@@ -14,9 +14,9 @@ use Rattle.reading.specs.Told.{numbers_are_told}
 use Rattle.machine.proofs.CallLaws.{refused_good}
 use Rattle.embedded.specs.Checking.{halves_of, checked_number}
 
-pub halves_are : (high low : ℕ) → high * 2 ^ 32 + low % 2 ^ 32 ≡ halves_of high low
+pub halves_are : (high low l : ℕ) → l ≡ low → high * 2 ^ 32 + l % 2 ^ 32 ≡ halves_of high low
 unfolding halves_of
-halves_are high low = refl
+halves_are high low l e = rw e refl
 
 module _ (file : List ℕ) (x : Result Counts Refusal) (e : x ≡ verdict (parse file)) where
   number_refused : (r : Refusal) (v : Read Rules) → parse file ≡ v → verdict v ≡ Err r → halves_of (fault_number r.fault) r.place.0 ≡ checked_number v

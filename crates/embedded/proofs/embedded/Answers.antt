@@ -1,11 +1,9 @@
-use Rattle.std.proofs.Common.{rules}
+use Rattle.std.proofs.Common.{rules, arith, ◌<◌, ◌≤◌, length}
 use Rattle.embedded.proofs.embedded.Goals as goal
 use Rattle.embedded.proofs.CallLaws.{embed_long, embed_runs}
 
--- src/lib.rt:85:9
 pub returns-then-too_long : goal.returns-then-too_long
-returns-then-too_long c = search (embed_long, rules)
+returns-then-too_long c = let h : 4_000 < length c.args.file.now = omega (arith, c.if-too_long.true) in search (embed_long, rules)
 
--- src/lib.rt:81:1
 pub returns : goal.returns
-returns c = search (embed_runs, rules)
+returns c = let h : length c.args.file.now ≤ 4_000 = omega (arith, c.if-too_long.false) in search (embed_runs, rules)

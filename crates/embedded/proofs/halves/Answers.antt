@@ -1,6 +1,6 @@
+use Rattle.std.proofs.Common.{arith}
 use Rattle.embedded.proofs.halves.Goals as goal
 use Rattle.embedded.proofs.Laws.{halves_are}
 
--- src/lib.rt:19:1
 pub returns : goal.returns
-returns c = search halves_are
+returns c = halves_are c.args.high c.args.low _ (omega arith)
