@@ -103,9 +103,9 @@ fn below(a: u32, b: u32) -> u32
 
 // The choice of a step: the choice before it, and the next clause to try.
 #[derive(Clone, Copy)]
-struct Rest {
-    prior: u32,
-    clause: Option<ClauseNumber>,
+pub struct Rest {
+    pub prior: u32,
+    pub clause: Option<ClauseNumber>,
 }
 
 // Where the clause of a trial stands, and how many variables it has: there is room for it.

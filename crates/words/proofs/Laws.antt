@@ -1,7 +1,7 @@
 -- Reading and writing past the end, and four in a row.
 -- Assumes nothing.
 use Rattle.std.proofs.Common.{◌≡◌, ℕ, ◌+◌, ◌*◌, ◌%◌, ◌^◌, ◌≤◌, ◌<◌, List, length, set, sym, refl, arith}
-use lib.ListN.{get_or-eq_default}
+use lib.ListN.{get_or-eq_default, length-set}
 use native.Mathlib.Nat.{mod-eq_of_lt}
 use Rattle.meaning.specs.Reading.{byte, two_bytes}
 use Rattle.words.specs.Words.{ahead, put_four}
@@ -16,11 +16,20 @@ pub byte_far : (file : List ℕ) (p k : ℕ) → length file < 2 ^ 64 → 2 ^ 64
 unfolding byte
 byte_far file p k h g = sym (get_or-eq_default file 0 (omega arith))
 
--- within the words no place wraps
-pub four_within : {A : Type 0} (w : List A) (at : ℕ) (a b c d : A) → at + 3 < length w → length w < 2 ^ 64 → set (set (set (set w at a) (at + 1) b) (at + 2) c) (at + 3) d ≡ put_four w at a b c d
+-- where no place wraps
+pub put_four_within : {A : Type 0} (w : List A) (at : ℕ) (a b c d : A) → at + 3 < 2 ^ 64 → set (set (set (set w at a) (at + 1) b) (at + 2) c) (at + 3) d ≡ put_four w at a b c d
 unfolding put_four ahead
-four_within w at a b c d h s =
+put_four_within w at a b c d h =
     let x : (at + 1) % 2 ^ 64 ≡ at + 1 = mod-eq_of_lt (omega arith) in
     let y : (at + 2) % 2 ^ 64 ≡ at + 2 = mod-eq_of_lt (omega arith) in
     let z : (at + 3) % 2 ^ 64 ≡ at + 3 = mod-eq_of_lt (omega arith) in
     rw (x, y, z) refl
+
+-- within the words no place wraps
+pub four_within : {A : Type 0} (w : List A) (at : ℕ) (a b c d : A) → at + 3 < length w → length w < 2 ^ 64 → set (set (set (set w at a) (at + 1) b) (at + 2) c) (at + 3) d ≡ put_four w at a b c d
+four_within w at a b c d h s = put_four_within w at a b c d (omega arith)
+
+-- as many stand there as before
+pub put_four_length : {A : Type 0} (w : List A) (at : ℕ) (a b c d : A) → length (put_four w at a b c d) ≡ length w
+unfolding put_four
+put_four_length w at a b c d = simp length-set refl
