@@ -64,6 +64,7 @@ impl Run<'_> {
     }
 
     // A head is tried, its unit being spent, and its pairs are matched.
+    #[tactic(auto, using(crate::proofs::HeadLaws::try_over))]
     fn try_head(&self, w: &mut [u32], t: Trial, m: Regs) -> Due
         ensures { TriesPairs self.now.file.now self.now.given self.now.budget t m w.old result w.new }
     {
