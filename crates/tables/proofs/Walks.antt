@@ -19,6 +19,16 @@ module _ (file : List ℕ) where
   terms_within levels p []ₜ h = omega arith
   terms_within levels p (t ∷ₜ ts) h = let e = terms_within levels (p + term_length t) ts h.1 in omega arith
 
+  goals_within : (base p : ℕ) (gs : List Goal) → HereGoals file base p gs → p + goals_length gs ≤ length file
+  unfolding goals_length
+  goals_within base p [] h = omega arith
+  goals_within base p (g ∷ gs) h = let e = goals_within base (p + goal_length g) gs h.1 in omega arith
+
+  clauses_within : (base p : ℕ) (cs : List Clause) → HereClauses file base p cs → p + clauses_length cs ≤ length file
+  unfolding clauses_length
+  clauses_within base p [] h = omega arith
+  clauses_within base p (c ∷ cs) h = let e = clauses_within base (p + clause_length c) cs h.1 in omega arith
+
   terms_start_within : (levels p : ℕ) (ts : Terms) → HereTerms file levels p ts → p ≤ length file
   terms_start_within levels p ts h = let e = terms_within levels p ts h in omega arith
 
