@@ -120,7 +120,7 @@ enum { PEGPLANET_RUN_FILE = 4000, PEGPLANET_RUN_CELLS = 1000, PEGPLANET_RUN_STEP
 /* The words of scratch that the whole call needs for a file of F bytes, C cells, S steps and W work. */
 #define PEGPLANET_SCRATCH_WORDS(F, C, S, W) ((size_t)64 + 2 * (size_t)(F) + 4 * (size_t)(C) + 8 * (size_t)(S) + 4 * (size_t)(W))
 
-/* The most bytes of stack that each function takes: measured (67,984 for a run, of which 64,256 are its scratch; 3,776 for a call; 2,752 for
+/* The most bytes of stack that each function takes: measured (68,000 for a run, of which 64,256 are its scratch; 3,792 for a call; 2,768 for
  * a check; on x86-64, with the deepest terms), and rounded up. */
 enum { PEGPLANET_RUN_STACK = 72 * 1024, PEGPLANET_CALL_STACK = 8 * 1024, PEGPLANET_CHECK_STACK = 8 * 1024 };
 
